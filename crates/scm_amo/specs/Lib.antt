@@ -1,0 +1,2 @@
+pub mod Amos
+pub mod Results

@@ -1,0 +1,15 @@
+pub mod Calls
+pub mod Machine
+pub mod Verdicts
+pub mod Refusals
+pub mod Steps
+pub mod Runs
+pub use Rattle.scm_sequences.specs.Fronts
+pub use Rattle.scm_sequences.specs.Traces
+pub use Rattle.scm_sequences.specs.Sequences
+pub use Rattle.scm_cells.specs.Names
+pub use Rattle.scm_cells.specs.CellLists
+pub use Rattle.scm_cells.specs.Numbers
+pub use Rattle.scm_frontier.specs.Reached
+pub use Rattle.scm_frontier.specs.Situated
+pub use Rattle.scm_lowering.specs.Lowering

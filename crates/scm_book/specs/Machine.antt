@@ -1,0 +1,51 @@
+-- The machine: it holds the open traces in the order of their opening, and nothing else.
+use Rattle.std.specs.Prelude.{ℕ, List, [], ◌∷◌, Option, None, Some, if◌then◌else◌}
+use Rattle.scm_sequences.specs.declared.op.Op.{Op}
+use Rattle.scm_sequences.specs.Traces.{Trace, trace_of}
+use Rattle.scm_cells.specs.Names.{name_eq}
+use Rattle.scm_cells.specs.CellLists.{Declared, initials_of}
+
+pub record TraceState : Type 0 where
+  -- the session that opened the trace
+  pub owner : ℕ
+  -- how many situations a question may look at
+  pub budget : ℕ
+  pub cells : List Declared
+  pub sequences : List (List Op)
+  -- for each process the session that claimed it, or nobody
+  pub claimants : List (Option ℕ)
+  -- the lengths that were marked, in order
+  pub marks : List (List ℕ)
+
+pub record Machine : Type 0 where
+  -- each trace under its name
+  pub traces : List (List ℕ × TraceState)
+
+-- the machine that holds no trace
+abbrev pub empty_machine : Machine
+empty_machine = record { traces = [] }
+
+abbrev pub state_named : List (List ℕ × TraceState) → List ℕ → Option TraceState
+state_named [] name = None
+state_named (entry ∷ others) name = if name_eq name entry.0 then Some entry.1 else state_named others name
+
+-- the trace of this name
+abbrev pub trace_named : Machine → List ℕ → Option TraceState
+trace_named machine name = state_named machine.traces name
+
+-- under this name there is this trace now: in the place where it was, or else last
+abbrev pub with_state : List (List ℕ × TraceState) → List ℕ → TraceState → List (List ℕ × TraceState)
+with_state [] name state = (name, state) ∷ []
+with_state (entry ∷ others) name state =
+    if name_eq name entry.0 then (entry.0, state) ∷ others else entry ∷ with_state others name state
+
+abbrev pub with_trace : Machine → List ℕ → TraceState → Machine
+with_trace machine name state = record { traces = with_state machine.traces name state }
+
+-- the trace that a question is about
+abbrev pub trace_in : TraceState → Trace
+trace_in state = trace_of (initials_of state.cells) state.sequences
+
+-- what contracts see of a book
+pub record BookState : Type 0 where
+  pub machine : Machine

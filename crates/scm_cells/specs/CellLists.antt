@@ -1,0 +1,47 @@
+-- The cells of a trace, in the order of their declaration.
+use Rattle.std.specs.Prelude.{ℕ, ◌<◌, ◌≤◌, ◌≢◌, List, length, map, All, AllPairs, ◌||◌, nat_le, if◌then◌else◌, Option, None, Some, IfSome, option_map, position}
+use Rattle.std.specs.Option.{option_map_or}
+use Rattle.std.specs.List.{list_any}
+use Rattle.scm_sequences.specs.declared.refusal.Refusal.{Refusal}
+use Rattle.scm_sequences.specs.declared.refusal.Refusal.TheVariants.{BadDeclaration}
+use Rattle.scm_sequences.specs.declared.limits.TheConstants.{MOST_CELLS}
+use Rattle.scm_cells.specs.declared.width.Width.{Width}
+use Rattle.scm_cells.specs.declared.number.Num.{Num}
+use Rattle.scm_cells.specs.Names.{name_eq}
+use Rattle.scm_cells.specs.Widths.{values_of}
+use Rattle.scm_cells.specs.Numbers.{value_of_number}
+
+-- a cell's name, its width, and what it holds at first, None where that is open
+pub record Declared : Type 0 where
+  pub name : List ℕ
+  pub width : Width
+  pub initial : Option ℕ
+
+-- the number of the cell of this name
+abbrev pub cell_named : List Declared → List ℕ → Option ℕ
+cell_named cells name = position (λ cell. name_eq cell.name name) cells
+
+-- what the cells hold at first
+abbrev pub initials_of : List Declared → List (Option ℕ)
+initials_of cells = map (λ cell. cell.initial) cells
+
+-- the cell of this name, width and number, None where the number doesn't fit the width
+abbrev pub declared_cell : List ℕ → Width → Num → Option Declared
+declared_cell name width number =
+    option_map (λ value. record { name = name; width = width; initial = Some value }) (value_of_number width number)
+
+-- why a cell can't be added, if so: its name is there, all cells are there, or its number doesn't fit
+abbrev pub add_refusal : List Declared → List ℕ → Width → Num → Option Refusal
+add_refusal cells name width number =
+    if list_any (λ cell. name_eq cell.name name) cells || nat_le MOST_CELLS (length cells) then Some BadDeclaration
+    else option_map_or (λ _. None) (value_of_number width number) (Some BadDeclaration)
+
+-- an initial value below the limit of its width
+abbrev pub HasValueInWidth : Declared → Type 0
+HasValueInWidth cell = IfSome cell.initial (λ value. value < values_of cell.width)
+
+-- what holds of the cells of every trace: at most MOST_CELLS, of different names, each with a value of its width
+pub record AreCells (cells : List Declared) : Type 0 where
+  pub most : length cells ≤ MOST_CELLS
+  pub different : AllPairs (λ a b. a.name ≢ b.name) cells
+  pub values : All HasValueInWidth cells

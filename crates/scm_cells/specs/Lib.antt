@@ -1,0 +1,9 @@
+pub mod Names
+pub mod NameLaws
+pub mod Widths
+pub mod Numbers
+pub mod Digits
+pub mod CellLists
+pub mod CellLaws
+pub mod CellEntries
+pub use Rattle.scm_sequences.specs.Refusals

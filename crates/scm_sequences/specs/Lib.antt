@@ -1,0 +1,9 @@
+pub mod Refusals
+pub mod Ops
+pub mod Lengths
+pub mod Sequences
+pub mod SequenceLaws
+pub mod Traces
+pub mod Fronts
+pub mod FrontLaws
+pub mod CutLaws
