@@ -1,5 +1,5 @@
 -- The entries of a map from names, as cells.
-use Rattle.std.specs.Prelude.{ℕ, List, map, Option}
+use Rattle.std.specs.Prelude.{ℕ, List, map}
 use Rattle.scm_cells.specs.declared.cells.Cell.{Cell}
 use Rattle.scm_cells.specs.CellLists.{Declared}
 

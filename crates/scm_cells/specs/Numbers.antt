@@ -1,5 +1,5 @@
 -- The words that stand for counts and numbers, and the value of a number in a cell. This project's profile.
-use Rattle.std.specs.Prelude.{ℕ, ◌+◌, ◌-◌, ◌*◌, ◌%◌, ◌^◌, min, List, length, drop, codes, Bool, true, false, ◌&&◌, ◌||◌, nat_le, nat_lt, nat_eq, if◌then◌else◌, Option, None, Some, fold}
+use Rattle.std.specs.Prelude.{ℕ, ◌+◌, ◌-◌, ◌*◌, ◌%◌, ◌^◌, min, List, length, drop, codes, Bool, false, ◌&&◌, ◌||◌, nat_le, nat_lt, nat_eq, if◌then◌else◌, Option, None, Some, fold}
 use Rattle.std.specs.Option.{option_map}
 use Rattle.std.specs.List.{list_all, starts_with}
 use Rattle.scm_cells.specs.declared.number.Num.{Num}
@@ -27,7 +27,7 @@ decimal_value word =
 abbrev pub hex_value : List ℕ → Option ℕ
 hex_value word =
     if nat_lt 0 (length word) && list_all is_hex_digit word then
-        Some (fold (λ n b. n * 16 + hex_digit_value b) 0 word)
+    Some (fold (λ n b. n * 16 + hex_digit_value b) 0 word)
     else None
 
 abbrev pub plain_or_beyond : ℕ → Num

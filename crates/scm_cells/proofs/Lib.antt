@@ -1,0 +1,3 @@
+mod PaddedNames
+mod Narrowing
+mod CellMaps

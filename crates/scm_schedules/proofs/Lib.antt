@@ -1,0 +1,3 @@
+pub mod FrontSteps
+pub mod LinkLaws
+pub mod WalkLaws

@@ -1,0 +1,94 @@
+//! A walk along a list of process numbers.
+ghost use Rattle.std.specs.Prelude.{ℕ, ◌≡◌, ◌-◌, ◌<◌, ◌≤◌, ◌^◌, ◌↔◌, length, IsTrue, MatchBool, None, Some, OnSome, slice_index};
+ghost use Rattle.scm_sequences.specs.declared.limits.TheConstants.{MOST_CELLS, MOST_PROCESSES};
+ghost use Rattle.scm_sequences.specs.Ops.{cell_of, NamesCellsBelow};
+ghost use Rattle.scm_sequences.specs.Sequences.{operation, cut_lists};
+ghost use Rattle.scm_frontier.specs.Steps.{start_of, step_of};
+ghost use Rattle.scm_schedules.specs.Walks.{step_by};
+
+use arrayvec::ArrayVec;
+use scm_sequences::{Lengths, MOST_CELLS, MOST_PROCESSES, Op, Sequences};
+use std::marker::Model;
+
+/// How many operations of each process were passed so far, and what each cell holds there. It lies in the value
+/// itself, so no call takes memory.
+#[derive(Drop)]
+pub(crate) struct Walk {
+    counts: ArrayVec<u32, MOST_PROCESSES>,
+    contents: ArrayVec<Option<u64>, MOST_CELLS>,
+}
+
+impl Model for Walk {
+    ghost use Rattle.scm_frontier.specs.Situated.{Situated};
+
+    ghost Value = { Situated };
+
+    ghost view = { λ w. record { counts = w.counts.items; contents = w.contents.items } };
+}
+
+impl Walk {
+    /// Before any operation, of cells that hold this at first and of this many processes.
+    pub(crate) fn start(initials: &[Option<u64>], procs: usize) -> Walk
+        requires procs { procs ≤ MOST_PROCESSES }
+        requires cells { length initials.now ≤ MOST_CELLS }
+        ensures { result ≡ start_of initials.now procs }
+    {
+        Walk {
+            counts: ArrayVec::try_from(&[0; MOST_PROCESSES][..procs]).unwrap(),
+            contents: ArrayVec::try_from(initials).unwrap(),
+        }
+    }
+
+    /// Takes the next operation of process `p` within these lengths. False where there is none, or where it read a
+    /// value that its cell doesn't hold.
+    pub(crate) fn step(&mut self, p: usize, sequences: &Sequences, lengths: &Lengths) -> bool
+        requires procs { length self.old.counts ≡ length lengths.now }
+        requires cells { NamesCellsBelow (length self.old.contents) sequences.now }
+        ensures { MatchBool result
+            (step_by (cut_lists sequences.now lengths.now) self.old p ≡ Some self.new)
+            (step_by (cut_lists sequences.now lengths.now) self.old p ≡ None) }
+    {
+        match self.next(p, sequences, lengths) {
+            Some(op) => self.pass(p, op),
+            None => false,
+        }
+    }
+
+    // The operation of process `p` that comes next within these lengths.
+    fn next(&self, p: usize, sequences: &Sequences, lengths: &Lengths) -> Option<Op>
+        requires { length self.now.counts ≡ length lengths.now }
+        ensures next { result ≡ operation (cut_lists sequences.now lengths.now) p (slice_index self.now.counts p) }
+        ensures process { OnSome result (p < length self.now.counts) }
+        ensures room { OnSome result (slice_index self.now.counts p < 2 ^ 32 - 1) }
+    {
+        if p < lengths.procs() && self.counts[p] < lengths.get(p) {
+            sequences.next(p, self.counts[p] as usize)
+        } else {
+            None
+        }
+    }
+
+    // Passes this operation of process `p`, unless it read a value that its cell doesn't hold.
+    fn pass(&mut self, p: usize, op: Op) -> bool
+        requires process { p < length self.old.counts }
+        requires cell { cell_of op < length self.old.contents }
+        requires room { slice_index self.old.counts p < 2 ^ 32 - 1 }
+        ensures { MatchBool result (step_of self.old p op ≡ Some self.new) (step_of self.old p op ≡ None) }
+    {
+        let cell = op.cell();
+        if !op.finds(self.contents[cell]) {
+            return false;
+        }
+        self.counts[p] += 1;
+        self.contents[cell] = Some(op.value_after());
+        true
+    }
+
+    /// Whether every operation within these lengths was passed.
+    pub(crate) fn has_all(&self, lengths: &Lengths) -> bool
+        requires { length self.now.counts ≡ length lengths.now }
+        ensures { IsTrue result ↔ (self.now.counts ≡ lengths.now) }
+    {
+        (0..lengths.procs()).all(|p| self.counts[p] == lengths.get(p))
+    }
+}
