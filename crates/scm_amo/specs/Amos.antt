@@ -10,7 +10,7 @@ use Rattle.scm_amo.specs.declared.kind.AmoKind.TheVariants.{Swap, Add, And, Or, 
 abbrev pub kinds : List AmoKind
 kinds = Swap ∷ Add ∷ And ∷ Or ∷ Xor ∷ Max ∷ Min ∷ MaxU ∷ MinU ∷ []
 
--- each kind on words, and then on double words
+-- each kind on words, and then on doublewords
 abbrev pub amos : List (AmoKind × Width)
 amos = flat_map (λ kind. (kind, W) ∷ (kind, D) ∷ []) kinds
 

@@ -5,31 +5,44 @@ ghost use Rattle.scm_amo.specs.Amos.{amos};
 use crate::AmoKind;
 use scm_cells::Width;
 
-/// Calls a macro with its arguments and the nine kinds: each with its name but for the width's letter, and what it
-/// stores for the unsigned numbers `old` and `operand` of either width. Those two variables are the macro's to bind.
-macro_rules! for_each_kind {
+/// Calls a macro with its arguments and the eighteen AMOs, each as its kind, its width, the unsigned type of that
+/// width, its name, and what it stores. That is an expression over two numbers of that type, the old value and the
+/// operand, whose variables come first.
+macro_rules! for_each_amo {
     ($callback:ident $arguments:tt) => {
+        for_each_amo! {
+            @both_widths $callback $arguments (old, operand)
+            [Swap, "amoswap", operand]
+            [Add, "amoadd", old.wrapping_add(operand)]
+            [And, "amoand", old & operand]
+            [Or, "amoor", old | operand]
+            [Xor, "amoxor", old ^ operand]
+            [Max, "amomax", old.cast_signed().max(operand.cast_signed()).cast_unsigned()]
+            [Min, "amomin", old.cast_signed().min(operand.cast_signed()).cast_unsigned()]
+            [MaxU, "amomaxu", old.max(operand)]
+            [MinU, "amominu", old.min(operand)]
+        }
+    };
+    (
+        @both_widths $callback:ident $arguments:tt $variables:tt
+        $([$kind:ident, $name:literal, $stored:expr])*
+    ) => {
         $callback! {
-            $arguments (old, operand)
-            [Swap, "amoswap.", operand]
-            [Add, "amoadd.", old.wrapping_add(operand)]
-            [And, "amoand.", old & operand]
-            [Or, "amoor.", old | operand]
-            [Xor, "amoxor.", old ^ operand]
-            [Max, "amomax.", old.cast_signed().max(operand.cast_signed()).cast_unsigned()]
-            [Min, "amomin.", old.cast_signed().min(operand.cast_signed()).cast_unsigned()]
-            [MaxU, "amomaxu.", old.max(operand)]
-            [MinU, "amominu.", old.min(operand)]
+            $arguments $variables
+            $(
+                [$kind, W, u32, concat!($name, ".w"), $stored]
+                [$kind, D, u64, concat!($name, ".d"), $stored]
+            )*
         }
     };
 }
 
-pub(crate) use for_each_kind;
+pub(crate) use for_each_amo;
 
-/// The array of each kind at both widths.
-macro_rules! pairs {
-    (() $variables:tt $([$kind:ident, $name:literal, $result:expr])*) => {
-        [$((AmoKind::$kind, Width::W), (AmoKind::$kind, Width::D)),*]
+/// The array of the kinds and widths.
+macro_rules! kinds_and_widths {
+    (() $variables:tt $([$kind:ident, $width:ident, $number:ident, $name:expr, $stored:expr])*) => {
+        [$((AmoKind::$kind, Width::$width)),*]
     };
 }
 
@@ -37,5 +50,5 @@ macro_rules! pairs {
 pub fn at(i: usize) -> Option<(AmoKind, Width)>
     ensures { result ≡ slice_get amos i }
 {
-    for_each_kind!(pairs()).get(i).copied()
+    for_each_amo!(kinds_and_widths()).get(i).copied()
 }

@@ -5,32 +5,30 @@ ghost use Rattle.std.specs.Str.{bytes_eq};
 ghost use Rattle.scm_amo.specs.Amos.{amo_name, amo_of_name, is_spelled, orderings};
 
 use crate::AmoKind;
-use crate::list::for_each_kind;
+use crate::list::for_each_amo;
 use scm_cells::Width;
 
-/// The match on a kind and a width whose eighteen arms give their names.
-macro_rules! name_of {
-    (($amo:expr) $variables:tt $([$kind:ident, $name:literal, $result:expr])*) => {
+/// The match on an AMO whose eighteen arms give its name.
+macro_rules! match_name {
+    (
+        ($amo:expr) $variables:tt
+        $([$kind:ident, $width:ident, $number:ident, $name:expr, $stored:expr])*
+    ) => {
         match $amo {
-            $(
-                (AmoKind::$kind, Width::W) => concat!($name, "w"),
-                (AmoKind::$kind, Width::D) => concat!($name, "d"),
-            )*
+            $((AmoKind::$kind, Width::$width) => $name,)*
         }
     };
 }
 
-/// Returns the first of the AMOs that a word names.
-macro_rules! find_name {
-    (($word:expr) $variables:tt $([$kind:ident, $name:literal, $result:expr])*) => {
-        $(
-            if spells($word, concat!($name, "w")) {
-                return Some((AmoKind::$kind, Width::W));
-            }
-            if spells($word, concat!($name, "d")) {
-                return Some((AmoKind::$kind, Width::D));
-            }
-        )*
+/// Returns the first AMO that a word names.
+macro_rules! return_named {
+    (
+        ($word:expr) $variables:tt
+        $([$kind:ident, $width:ident, $number:ident, $name:expr, $stored:expr])*
+    ) => {
+        $(if spells($word, $name) {
+            return Some((AmoKind::$kind, Width::$width));
+        })*
     };
 }
 
@@ -40,7 +38,7 @@ pub fn name(kind: AmoKind, width: Width) -> &'static str
     ensures name { result.now ≡ amo_name kind width }
     ensures read { amo_of_name result.now ≡ Some (kind, width) }
 {
-    for_each_kind!(name_of((kind, width)))
+    for_each_amo!(match_name((kind, width)))
 }
 
 /// Whether this is what may follow a name: nothing, `.aq`, `.rl` or `.aqrl`.
@@ -68,6 +66,6 @@ fn spells(word: &[u8], name: &str) -> bool
 pub fn read_name(word: &[u8]) -> Option<(AmoKind, Width)>
     ensures { result ≡ amo_of_name word.now }
 {
-    for_each_kind!(find_name(word));
+    for_each_amo!(return_named(word));
     None
 }

@@ -4,26 +4,20 @@ ghost use Rattle.scm_cells.specs.Widths.{values_of};
 ghost use Rattle.scm_amo.specs.Results.{amo_result};
 
 use crate::AmoKind;
-use crate::list::for_each_kind;
+use crate::list::for_each_amo;
 use scm_cells::Width;
 
-/// The match on a kind and a width whose eighteen arms give what each stores.
-macro_rules! result_of {
+/// The match on an AMO whose eighteen arms give what it stores for an old value and an operand.
+macro_rules! match_stored {
     (
-        ($amo:expr, $stored:expr, $rs2:expr) ($old:ident, $operand:ident)
-        $([$kind:ident, $name:literal, $result:expr])*
+        ($amo:expr, $old_value:expr, $rs2:expr) ($old:ident, $operand:ident)
+        $([$kind:ident, $width:ident, $number:ident, $name:expr, $stored:expr])*
     ) => {
         match $amo {
-            $(
-                (AmoKind::$kind, Width::W) => {
-                    let ($old, $operand) = ($stored as u32, $rs2 as u32);
-                    u64::from($result)
-                }
-                (AmoKind::$kind, Width::D) => {
-                    let ($old, $operand) = ($stored, $rs2);
-                    $result
-                }
-            )*
+            $((AmoKind::$kind, Width::$width) => {
+                let ($old, $operand) = ($old_value as $number, $rs2 as $number);
+                u64::from($stored)
+            })*
         }
     };
 }
@@ -37,5 +31,5 @@ pub fn apply(kind: AmoKind, width: Width, old: u64, operand: u64) -> u64
     ensures value { result ≡ amo_result kind width old operand }
     ensures in_width { result < values_of width }
 {
-    for_each_kind!(result_of((kind, width), old, operand))
+    for_each_amo!(match_stored((kind, width), old, operand))
 }

@@ -1,5 +1,7 @@
 pub mod Calls
 pub mod Machine
+pub mod Sound
+pub mod Showing
 pub mod Verdicts
 pub mod Refusals
 pub mod Steps
@@ -7,6 +9,7 @@ pub mod Runs
 pub use Rattle.scm_sequences.specs.Fronts
 pub use Rattle.scm_sequences.specs.Traces
 pub use Rattle.scm_sequences.specs.Sequences
+pub use Rattle.scm_budget.specs.Budgets
 pub use Rattle.scm_cells.specs.Names
 pub use Rattle.scm_cells.specs.CellLists
 pub use Rattle.scm_cells.specs.Numbers

@@ -1,5 +1,5 @@
 -- The machine: it holds the open traces in the order of their opening, and nothing else.
-use Rattle.std.specs.Prelude.{ℕ, List, [], ◌∷◌, Option, None, Some, if◌then◌else◌}
+use Rattle.std.specs.Prelude.{ℕ, List, [], ◌∷◌, Option, None, Some, if◌then◌else◌, replicate}
 use Rattle.scm_sequences.specs.declared.op.Op.{Op}
 use Rattle.scm_sequences.specs.Traces.{Trace, trace_of}
 use Rattle.scm_cells.specs.Names.{name_eq}
@@ -8,7 +8,7 @@ use Rattle.scm_cells.specs.CellLists.{Declared, initials_of}
 pub record TraceState : Type 0 where
   -- the session that opened the trace
   pub owner : ℕ
-  -- how many situations a question may look at
+  -- a question may stay undecided only where more situations than this can be reached
   pub budget : ℕ
   pub cells : List Declared
   pub sequences : List (List Op)
@@ -20,6 +20,17 @@ pub record TraceState : Type 0 where
 pub record Machine : Type 0 where
   -- each trace under its name
   pub traces : List (List ℕ × TraceState)
+
+-- a trace of these cells and so many processes, with no operations, whose processes nobody claimed
+abbrev pub new_trace : ℕ → ℕ → ℕ → List Declared → TraceState
+new_trace owner procs budget cells = record {
+  owner = owner;
+  budget = budget;
+  cells = cells;
+  sequences = replicate procs [];
+  claimants = replicate procs None;
+  marks = [];
+}
 
 -- the machine that holds no trace
 abbrev pub empty_machine : Machine

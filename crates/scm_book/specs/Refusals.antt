@@ -32,19 +32,31 @@ abbrev pub declared_cells : List Decl → Option (List Declared)
 declared_cells [] = Some []
 declared_cells (decl ∷ others) =
     option_and_then (λ cell. option_map (λ cells. cell ∷ cells) (declared_cells others))
-      (declared_cell decl.name decl.width decl.initial)
+    (declared_cell decl.name decl.width decl.initial)
 
+-- no cells, too many, two of one name, or a number that doesn't fit
+abbrev pub are_bad_cells : List Decl → Bool
+are_bad_cells decls =
+    nat_lt (length decls) 1 || nat_lt MOST_CELLS (length decls) || not (names_differ decls) || is_none (declared_cells decls)
+
+-- or no processes, or too many
 abbrev pub is_bad_declaration : ℕ → List Decl → Bool
-is_bad_declaration procs decls =
-    nat_lt procs 1 || nat_lt MOST_PROCESSES procs || nat_lt (length decls) 1 || nat_lt MOST_CELLS (length decls)
-    || not (names_differ decls) || is_none (declared_cells decls)
+is_bad_declaration procs decls = nat_lt procs 1 || nat_lt MOST_PROCESSES procs || are_bad_cells decls
+
+-- why there can't be such a trace, if so
+abbrev pub trace_cause : ℕ → ℕ → List Decl → Option Refusal
+trace_cause procs budget decls =
+    option_or (cause (is_bad_declaration procs decls) BadDeclaration)
+    (cause (not (is_budget budget)) BadBudget)
+
+-- why there is no place for it under this name, if so
+abbrev pub place_cause : Machine → List ℕ → Option Refusal
+place_cause machine name =
+    option_or (cause (is_some (trace_named machine name)) NameTaken)
+    (cause (nat_le MOST_TRACES (length machine.traces)) TooManyTraces)
 
 abbrev pub open_refusal : Machine → List ℕ → ℕ → ℕ → List Decl → Option Refusal
-open_refusal machine name procs budget decls =
-    option_or (cause (is_bad_declaration procs decls) BadDeclaration)
-    (option_or (cause (not (is_budget budget)) BadBudget)
-    (option_or (cause (is_some (trace_named machine name)) NameTaken)
-    (cause (nat_le MOST_TRACES (length machine.traces)) TooManyTraces)))
+open_refusal machine name procs budget decls = option_or (trace_cause procs budget decls) (place_cause machine name)
 
 -- ---- calls about a trace
 
@@ -59,22 +71,33 @@ no_process state p = cause (nat_le (length state.sequences) p) NoSuchProcess
 abbrev pub claimant_of : TraceState → ℕ → Option ℕ
 claimant_of state p = slice_index_or state.claimants p None
 
-abbrev pub claim_refusal : Machine → List ℕ → ℕ → Option Refusal
-claim_refusal machine name p = in_trace machine name (λ state.
+-- why process p of the trace can't be claimed, if so
+abbrev pub claim_cause : TraceState → ℕ → Option Refusal
+claim_cause state p =
     option_or (no_process state p)
-    (cause (is_some (claimant_of state p)) ProcessTaken))
+    (cause (is_some (claimant_of state p)) ProcessTaken)
+
+abbrev pub claim_refusal : Machine → List ℕ → ℕ → Option Refusal
+claim_refusal machine name p = in_trace machine name (λ state. claim_cause state p)
 
 -- why the access is no operation on these cells, if so
 abbrev pub refusal_in : Result Op Refusal → Option Refusal
 refusal_in (Ok op) = None
 refusal_in (Err refusal) = Some refusal
 
-abbrev pub report_refusal : Machine → ℕ → List ℕ → ℕ → Access → Option Refusal
-report_refusal machine session name p access = in_trace machine name (λ state.
+-- why the session can't report this access of process p of the trace, if so
+abbrev pub report_cause : TraceState → ℕ → ℕ → Access → Option Refusal
+report_cause state session p access =
     option_or (no_process state p)
     (option_or (cause (not (option_eq nat_eq (claimant_of state p) (Some session))) NotClaimed)
     (option_or (refusal_in (lowered state.cells access))
-    (cause (nat_le MOST_OPERATIONS (length (operations state.sequences p))) SequenceFull))))
+    (cause (nat_le MOST_OPERATIONS (length (operations state.sequences p))) SequenceFull)))
+
+abbrev pub report_refusal : Machine → ℕ → List ℕ → ℕ → Access → Option Refusal
+report_refusal machine session name p access = in_trace machine name (λ state. report_cause state session p access)
+
+abbrev pub show_refusal : Machine → List ℕ → ℕ → Option Refusal
+show_refusal machine name p = in_trace machine name (λ state. no_process state p)
 
 abbrev pub ask_refusal : Machine → List ℕ → Option Refusal
 ask_refusal machine name = in_trace machine name (λ state. None)

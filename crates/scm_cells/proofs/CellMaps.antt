@@ -19,16 +19,20 @@ use Rattle.scm_cells.specs.Numbers.{value_of_number}
 use Rattle.scm_cells.specs.CellLists.{Declared, add_refusal, cell_named, declared_cell, initials_of}
 use Rattle.scm_cells.specs.CellEntries.{cells_in}
 
-pub length-cells_in : (entries : List (List ℕ × Cell)) → length (cells_in entries) ≡ length entries
+pub length-cells_in : (entries : List (List ℕ × Cell))
+    → length (cells_in entries) ≡ length entries
 length-cells_in entries = length-map entries _
 
-pub cell_named-cells_in : (entries : List (List ℕ × Cell)) (name : List ℕ) → cell_named (cells_in entries) name ≡ position (name_eq name) (keys_of entries)
+pub cell_named-cells_in : (entries : List (List ℕ × Cell)) (name : List ℕ)
+    → cell_named (cells_in entries) name ≡ position (name_eq name) (keys_of entries)
 cell_named-cells_in entries name = position-named _ (λ (cell : Declared). cell.name) (λ e. refl) name entries
 
-pub has_name-cells_in : (entries : List (List ℕ × Cell)) (name : List ℕ) → list_any (λ cell. name_eq cell.name name) (cells_in entries) ≡ is_some (lookup (name_eq name) entries)
+pub has_name-cells_in : (entries : List (List ℕ × Cell)) (name : List ℕ)
+    → list_any (λ cell. name_eq cell.name name) (cells_in entries) ≡ is_some (lookup (name_eq name) entries)
 has_name-cells_in entries name = list_any-named _ (λ (cell : Declared). cell.name) (λ e. refl) name entries
 
-pub initials_of-cells_in : (entries : List (List ℕ × Cell)) → initials_of (cells_in entries) ≡ map (λ cell. cell.initial) (values_of entries)
+pub initials_of-cells_in : (entries : List (List ℕ × Cell))
+    → initials_of (cells_in entries) ≡ map (λ cell. cell.initial) (values_of entries)
 initials_of-cells_in [] = refl
 initials_of-cells_in (e ∷ entries) = ap (λ rest. e.1.initial ∷ rest) (initials_of-cells_in entries)
 
@@ -45,32 +49,44 @@ some_from None e x is = cc
 some_from (Some y) e x is = cc
 
 -- what 'Cells::add' finds of its map m, whose cells are these
-module _ {S : Type 0} (m : IndexMap (List ℕ) Cell S) (cells : List Declared) (view_is : cells_in m.entries ≡ cells) (name : List ℕ) (width : Width) (number : Num) where
-  pub add_refusal-full : MOST_CELLS ≤ length m.entries → add_refusal cells name width number ≡ Some BadDeclaration
+module _ {S : Type 0} (m : IndexMap (List ℕ) Cell S) (cells : List Declared) (view_is : cells_in m.entries ≡ cells)
+    (name : List ℕ) (width : Width) (number : Num) where
+  pub add_refusal-full : MOST_CELLS ≤ length m.entries
+      → add_refusal cells name width number ≡ Some BadDeclaration
   add_refusal-full full = by (list_any (λ cell. name_eq cell.name name) cells)
     where
       is_full : nat_le MOST_CELLS (length cells) ≡ true
       is_full = rw (← view_is, length-cells_in m.entries) (grind (arith, nat_tests))
 
-      by : (has_name : Bool) → (if has_name || nat_le MOST_CELLS (length cells) then Some BadDeclaration else option_map_or (λ _. None) (value_of_number width number) (Some BadDeclaration)) ≡ Some BadDeclaration
+      by : (has_name : Bool)
+          → (if has_name || nat_le MOST_CELLS (length cells) then Some BadDeclaration
+          else option_map_or (λ _. None) (value_of_number width number) (Some BadDeclaration)) ≡ Some BadDeclaration
       by true = refl
       by false = rw is_full refl
 
-  pub add_refusal-taken : is_some (get_by (name_eq name) m) ≡ true → add_refusal cells name width number ≡ Some BadDeclaration
+  pub add_refusal-taken : is_some (get_by (name_eq name) m) ≡ true
+      → add_refusal cells name width number ≡ Some BadDeclaration
   add_refusal-taken taken =
-      let has_name : list_any (λ cell. name_eq cell.name name) cells ≡ true = rw (← view_is, has_name-cells_in m.entries name) taken in
+      let has_name : list_any (λ cell. name_eq cell.name name) cells ≡ true =
+      rw (← view_is, has_name-cells_in m.entries name) taken in
       rw has_name refl
 
   -- where it adds a cell of this value
-  module _ (room : length m.entries < MOST_CELLS) (absent : is_some (get_by (name_eq name) m) ≡ false) (e : Refusal) (value : ℕ) (narrowed : ok_or (value_of_number width number) e ≡ Ok value) where
+  module _ (room : length m.entries < MOST_CELLS) (absent : is_some (get_by (name_eq name) m) ≡ false)
+      (e : Refusal) (value : ℕ) (narrowed : ok_or (value_of_number width number) e ≡ Ok value) where
     pub add_refusal-None : add_refusal cells name width number ≡ None
     add_refusal-None =
-        let new : list_any (λ cell. name_eq cell.name name) cells ≡ false = rw (← view_is, has_name-cells_in m.entries name) absent in
-        let is_full : nat_le MOST_CELLS (length cells) ≡ false = rw (← view_is, length-cells_in m.entries) (grind (arith, nat_tests)) in
+        let new : list_any (λ cell. name_eq cell.name name) cells ≡ false =
+        rw (← view_is, has_name-cells_in m.entries name) absent in
+        let is_full : nat_le MOST_CELLS (length cells) ≡ false =
+        rw (← view_is, length-cells_in m.entries) (grind (arith, nat_tests)) in
         rw (new, is_full, some_from (value_of_number width number) e value narrowed) refl
 
-    pub cells_in-insert : (entries : List (List ℕ × Cell)) → entries ≡ insert_entry name_eq m.entries name record { width = width; initial = Some value }
+    pub cells_in-insert : (entries : List (List ℕ × Cell))
+        → entries ≡ insert_entry name_eq m.entries name record { width = width; initial = Some value }
         → IsSomeAnd (declared_cell name width number) (λ cell. cells_in entries ≡ cells ++ cell ∷ [])
     cells_in-insert entries inserted =
         let cell : Cell = record { width = width; initial = Some value } in
-        rw (some_from (value_of_number width number) e value narrowed, inserted, insert_entry-new name_eq m name cell (none_from _ absent), ← view_is) (map-append _ m.entries _)
+        let fits = some_from (value_of_number width number) e value narrowed in
+        let last = insert_entry-new name_eq m name cell (none_from _ absent) in
+        rw (fits, inserted, last, ← view_is) (map-append _ m.entries _)

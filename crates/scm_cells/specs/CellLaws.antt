@@ -1,5 +1,5 @@
 -- The laws of lists of cells.
-use Rattle.std.specs.Prelude.{ℕ, ◌≡◌, ◌^◌, ◌<◌, ◌≤◌, ◌≢◌, List, [], ◌∷◌, ◌++◌, length, Bool, true, false, ◌||◌, nat_le, if◌then◌else◌, Option, None, Some, IfSome, IsSomeAnd, slice_index_or}
+use Rattle.std.specs.Prelude.{ℕ, ◌≡◌, ◌^◌, ◌<◌, ◌≤◌, ◌≢◌, List, [], ◌∷◌, ◌++◌, length, All, Bool, true, false, ◌||◌, nat_le, if◌then◌else◌, Option, None, Some, IfSome, IsSomeAnd, slice_index_or}
 use Rattle.std.specs.List.{list_any}
 use Rattle.std.specs.Option.{option_map_or}
 use Rattle.std.proofs.Common.{◌∙◌, refl, sym, subst, arith, true≢false}
@@ -20,33 +20,53 @@ use Rattle.scm_cells.specs.Widths.{values_of}
 use Rattle.scm_cells.specs.Numbers.{value_of_number}
 use Rattle.scm_cells.specs.CellLists.{Declared, AreCells, HasValueInWidth, add_refusal, cell_named, declared_cell, initials_of}
 
-pub cell_named-lt : (cells : List Declared) (name : List ℕ) (c : ℕ) → cell_named cells name ≡ Some c → c < length cells
+-- ---- the cell of a name
+
+pub cell_named-lt : (cells : List Declared) (name : List ℕ) (c : ℕ)
+    → cell_named cells name ≡ Some c → c < length cells
 cell_named-lt cells name c found =
     let some_cell : Declared = record { name = []; width = W; initial = None } in
     (position-Some (λ cell. name_eq cell.name name) cells c some_cell found).0
 
+-- the cell that is found has the name
+pub cell_named-name : (cells : List Declared) (name : List ℕ) (c : ℕ) (d : Declared)
+    → cell_named cells name ≡ Some c → (slice_index_or cells c d).name ≡ name
+cell_named-name cells name c d found =
+    (name_eq-Decides _ name).0 (position-Some (λ cell. name_eq cell.name name) cells c d found).1
+
+-- ---- what cells hold at first
+
 pub length-initials_of : (cells : List Declared) → length (initials_of cells) ≡ length cells
 length-initials_of cells = length-map cells (λ cell. cell.initial)
 
+pub values_of-le : (width : Width) → values_of width ≤ 2 ^ 64
+values_of-le W = omega arith
+values_of-le D = omega arith
+
 -- a number's value in a cell is below the limit of the cell's width
-pub value_of_number-lt : (width : Width) (number : Num) (value : ℕ) → value_of_number width number ≡ Some value → value < values_of width
+pub value_of_number-lt : (width : Width) (number : Num) (value : ℕ)
+    → value_of_number width number ≡ Some value → value < values_of width
 value_of_number-lt W (Plain n) value is = grind (arith, nat_tests)
 value_of_number-lt D (Plain n) value is = grind (arith, nat_tests)
 value_of_number-lt W (Negative m) value is = grind (arith, nat_tests)
 value_of_number-lt D (Negative m) value is = grind (arith, nat_tests)
 value_of_number-lt width Beyond value is = cc
 
--- and so below 2^64
-pub values_of-le : (width : Width) → values_of width ≤ 2 ^ 64
-values_of-le W = omega arith
-values_of-le D = omega arith
-
-pub HasValueInWidth-lt : (cell : Declared) → HasValueInWidth cell → IfSome cell.initial (λ value. value < 2 ^ 64)
+-- what a cell holds at first is below 2^64
+pub HasValueInWidth-lt : (cell : Declared)
+    → HasValueInWidth cell → IfSome cell.initial (λ value. value < 2 ^ 64)
 HasValueInWidth-lt cell h = by cell.initial h
   where
-    by : (initial : Option ℕ) → IfSome initial (λ value. value < values_of cell.width) → IfSome initial (λ value. value < 2 ^ 64)
+    by : (initial : Option ℕ) → IfSome initial (λ value. value < values_of cell.width)
+        → IfSome initial (λ value. value < 2 ^ 64)
     by None h = tt
     by (Some value) h = omega (arith, h, values_of-le cell.width)
+
+pub AreCells-lt : (cells : List Declared)
+    → AreCells cells → All (λ cell. IfSome cell.initial (λ value. value < 2 ^ 64)) cells
+AreCells-lt cells are k d below = HasValueInWidth-lt (slice_index_or cells k d) (are.values k d below)
+
+-- ---- adding a cell
 
 pub AreCells-nil : AreCells []
 AreCells-nil = record {
@@ -62,25 +82,38 @@ pub record IsAddable (cells : List Declared) (name : List ℕ) (width : Width) (
   pub value : ℕ
   pub is_value : value_of_number width number ≡ Some value
 
-pub IsAddable-from_add_refusal : (cells : List Declared) (name : List ℕ) (width : Width) (number : Num) → add_refusal cells name width number ≡ None → IsAddable cells name width number
+pub IsAddable-from_add_refusal : (cells : List Declared) (name : List ℕ) (width : Width) (number : Num)
+    → add_refusal cells name width number ≡ None → IsAddable cells name width number
 IsAddable-from_add_refusal cells name width number none =
     by (list_any (λ cell. name_eq cell.name name) cells) (nat_le MOST_CELLS (length cells)) (value_of_number width number) refl refl refl none
   where
-    by : (has_name is_full : Bool) (value : Option ℕ) → list_any (λ cell. name_eq cell.name name) cells ≡ has_name → nat_le MOST_CELLS (length cells) ≡ is_full → value_of_number width number ≡ value
-        → (if has_name || is_full then Some BadDeclaration else option_map_or (λ _. None) value (Some BadDeclaration)) ≡ None → IsAddable cells name width number
+    by : (has_name is_full : Bool) (value : Option ℕ)
+        → list_any (λ cell. name_eq cell.name name) cells ≡ has_name
+        → nat_le MOST_CELLS (length cells) ≡ is_full
+        → value_of_number width number ≡ value
+        → (if has_name || is_full then Some BadDeclaration
+        else option_map_or (λ _. None) value (Some BadDeclaration)) ≡ None
+        → IsAddable cells name width number
     by true is_full value new room is_value none = cc
     by false true value new room is_value none = cc
     by false false None new room is_value none = cc
     by false false (Some value) new room is_value none =
         record { new = new; room = grind (arith, nat_tests); value = value; is_value = is_value }
 
--- a cell whose name is nowhere among these
-different_from : (cells : List Declared) (name : List ℕ) → list_any (λ cell. name_eq cell.name name) cells ≡ false → (k : ℕ) (d : Declared) → k < length cells → (slice_index_or cells k d).name ≢ name
+-- a name that is nowhere among these cells differs from each of theirs
+different_from : (cells : List Declared) (name : List ℕ)
+    → list_any (λ cell. name_eq cell.name name) cells ≡ false
+    → (k : ℕ) (d : Declared) → k < length cells → (slice_index_or cells k d).name ≢ name
 different_from cells name new k d below same =
-    true≢false (sym (list_any_at (λ cell. name_eq cell.name name) cells k d below ((name_eq-Decides _ name).1 same)) ∙ new)
+    let has_name = list_any_at (λ cell. name_eq cell.name name) cells k d below ((name_eq-Decides _ name).1 same) in
+    true≢false (sym has_name ∙ new)
 
 -- the cells after one more was declared, as 'Cells::add' leaves them
-pub AreCells-add : (cells new : List Declared) (name : List ℕ) (width : Width) (number : Num) → AreCells cells → add_refusal cells name width number ≡ None → IsSomeAnd (declared_cell name width number) (λ cell. new ≡ cells ++ cell ∷ []) → AreCells new
+pub AreCells-add : (cells new : List Declared) (name : List ℕ) (width : Width) (number : Num)
+    → AreCells cells
+    → add_refusal cells name width number ≡ None
+    → IsSomeAnd (declared_cell name width number) (λ cell. new ≡ cells ++ cell ∷ [])
+    → AreCells new
 AreCells-add cells new name width number are none added =
     let addable = IsAddable-from_add_refusal cells name width number none in
     let cell : Declared = record { name = name; width = width; initial = Some addable.value } in

@@ -36,7 +36,7 @@ add_refusal cells name width number =
     if list_any (λ cell. name_eq cell.name name) cells || nat_le MOST_CELLS (length cells) then Some BadDeclaration
     else option_map_or (λ _. None) (value_of_number width number) (Some BadDeclaration)
 
--- an initial value below the limit of its width
+-- an initial value below the limit of its width, where it isn't open
 abbrev pub HasValueInWidth : Declared → Type 0
 HasValueInWidth cell = IfSome cell.initial (λ value. value < values_of cell.width)
 

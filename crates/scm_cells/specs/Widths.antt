@@ -1,5 +1,5 @@
 -- The widths of cells. A value of w bits is a number from 0 to 2^w - 1.
--- (RISC-V Unprivileged ISA 20191213: words of 32 bits and double words of 64.)
+-- (RISC-V Unprivileged ISA 20191213: words of 32 bits and doublewords of 64.)
 use Rattle.std.specs.Prelude.{ℕ, ◌^◌}
 use Rattle.scm_cells.specs.declared.width.Width.{Width}
 use Rattle.scm_cells.specs.declared.width.Width.TheVariants.{W, D}

@@ -1,5 +1,5 @@
 //! The cells of a trace.
-ghost use Rattle.std.specs.Prelude.{◌≡◌, ◌<◌, None, [], ◌∷◌, ◌++◌, length, map, slice_get, IfOk, IfErr, OnOk, OnErr, IsSomeAnd};
+ghost use Rattle.std.specs.Prelude.{◌≡◌, ◌↔◌, IsTrue, ◌<◌, None, [], ◌∷◌, ◌++◌, length, map, slice_get, IfOk, IfErr, OnOk, OnErr, IsSomeAnd};
 ghost use Rattle.indexmap.specs.IndexMap.{values};
 ghost use Rattle.scm_sequences.specs.Refusals.{Refuses};
 ghost use Rattle.scm_cells.specs.CellLists.{add_refusal, cell_named, declared_cell, initials_of, AreCells};
@@ -53,12 +53,14 @@ impl Cells {
     /// the width; or `NoMemory`. Unchanged after a refusal.
     pub fn add(&mut self, name: Name, width: Width, number: Num) -> Result<u8, Refusal>
         ensures place { IfOk result (λ c. c ≡ length self.old) }
-        ensures added { OnOk result ((add_refusal self.old name width number ≡ None) × IsSomeAnd (declared_cell name width number) (λ cell. self.new ≡ self.old ++ cell ∷ [])) }
+        ensures added { OnOk result ((add_refusal self.old name width number ≡ None)
+            × IsSomeAnd (declared_cell name width number) (λ cell. self.new ≡ self.old ++ cell ∷ [])) }
         ensures refused { IfErr result (Refuses (add_refusal self.old name width number)) }
         ensures unchanged { OnErr result (self.new ≡ self.old) }
     {
         let place = self.cells.len();
-        if place >= MOST_CELLS || self.cells.contains_key(&name) {
+        let is_taken = self.cells.contains_key(&name);
+        if is_taken || place >= MOST_CELLS {
             return Err(Refusal::BadDeclaration);
         }
         let Ok(value) = narrow(width, number) else {
@@ -80,6 +82,13 @@ impl Cells {
         ensures cells { AreCells self.now }
     {
         self.cells.len()
+    }
+
+    /// Whether there are no cells.
+    pub fn is_empty(&self) -> bool
+        ensures { IsTrue result ↔ (length self.now ≡ 0) }
+    {
+        self.cells.is_empty()
     }
 
     /// The number of the cell of this name.
@@ -133,4 +142,70 @@ fn collect_initials(cells: &IndexMap<Name, Cell>) -> Result<Vec<Option<u64>>, Al
         .values()
         .map(|cell| cell.initial)
         .collect(*cells.allocator())
+}
+
+#[cfg(test)]
+mod tests {
+    use super::*;
+    use crate::read_num;
+    use std::process::Abort;
+    use std::test::Fail;
+
+    fn name(rt: &impl Abort, word: &str) -> Name {
+        Name::read(word.as_bytes()).expect(rt, "a name")
+    }
+
+    fn number(rt: &impl Abort, word: &str) -> Num {
+        read_num(word.as_bytes()).expect(rt, "a number")
+    }
+
+    #[test]
+    fn adds_and_finds_cells(rt: HostRuntime) -> Result<(), Fail> {
+        let mut cells = Cells::new(rt.alloc());
+        assert!(rt; cells.is_empty());
+        assert_eq!(rt; cells.add(name(&rt, "x"), Width::W, number(&rt, "-1"))?, 0);
+        assert_eq!(rt; cells.add(name(&rt, "y"), Width::D, number(&rt, "7"))?, 1);
+        assert_eq!(rt; cells.len(), 2);
+        assert_eq!(rt; cells.find(&name(&rt, "x")), Some(0));
+        assert_eq!(rt; cells.find(&name(&rt, "y")), Some(1));
+        assert_eq!(rt; cells.find(&name(&rt, "z")), None);
+        assert!(rt; cells.name(1) == name(&rt, "y"));
+        assert_eq!(rt; cells.width(0), Width::W);
+        assert_eq!(rt; cells.initial(0), Some(4294967295));
+        let initials = cells.initials()?;
+        assert_eq!(rt; initials.as_slice(), [Some(4294967295), Some(7)].as_slice());
+        Ok(())
+    }
+
+    #[test]
+    fn refuses_a_name_twice(rt: HostRuntime) -> Result<(), Fail> {
+        let mut cells = Cells::new(rt.alloc());
+        cells.add(name(&rt, "x"), Width::W, Num::Plain(1))?;
+        let again = cells.add(name(&rt, "x"), Width::D, Num::Plain(2));
+        assert_eq!(rt; again, Err(Refusal::BadDeclaration));
+        assert_eq!(rt; cells.len(), 1);
+        Ok(())
+    }
+
+    #[test]
+    fn refuses_a_value_that_does_not_fit(rt: HostRuntime) {
+        let mut cells = Cells::new(rt.alloc());
+        let added = cells.add(name(&rt, "x"), Width::W, number(&rt, "4294967296"));
+        assert_eq!(rt; added, Err(Refusal::BadDeclaration));
+        assert!(rt; cells.is_empty());
+    }
+
+    #[test]
+    fn refuses_a_seventeenth_cell(rt: HostRuntime) -> Result<(), Fail> {
+        let mut cells = Cells::new(rt.alloc());
+        for letter in "abcdefghijklmnop".bytes() {
+            let name = Name::read(&[letter]).expect(&rt, "a name");
+            cells.add(name, Width::D, Num::Plain(0))?;
+        }
+        assert_eq!(rt; cells.len(), MOST_CELLS);
+        let added = cells.add(name(&rt, "q"), Width::D, Num::Plain(0));
+        assert_eq!(rt; added, Err(Refusal::BadDeclaration));
+        assert_eq!(rt; cells.find(&name(&rt, "p")), Some(15));
+        Ok(())
+    }
 }

@@ -1,12 +1,12 @@
 //! Names of traces, sessions and cells.
 ghost use Rattle.std.specs.Prelude.{◌≡◌, IsTrue, SomeIff};
-ghost use Rattle.std.specs.Cmp.{on_equiv, partial_equiv_from_equiv};
+ghost use Rattle.std.specs.Cmp.{partial_equiv_from_equiv};
 ghost use Rattle.std.specs.Cmp.Lexicographic.{nat_list_eq_equiv};
-ghost use Rattle.std.specs.Cmp.Rules.{hashing};
 ghost use Rattle.std.specs.Hash as fed;
 ghost use Rattle.std.specs.List.{list_all};
-ghost use Rattle.std.proofs.Common.{rules};
+ghost use Rattle.std.proofs.Common.{ap};
 ghost use Rattle.scm_cells.specs.Names.{is_name, is_name_byte, name_eq};
+ghost use Rattle.scm_cells.specs.NameLaws.{name_eq-Decides};
 
 use scm_sequences::LONGEST_NAME;
 use std::hash::{Hash, Hasher};
@@ -105,9 +105,48 @@ impl Eq for Name {
 impl Hash for Name {
     ghost hash_input = { fed.slice fed.u8 };
 
-    ghost respects_eq = { Prim.search (hashing, rules) };
+    ghost respects_eq = { λ a b same. ap (fed.slice fed.u8) ((name_eq-Decides a b).0 same) };
 
     fn hash<H: Hasher>(&self, state: &mut H) {
         self.bytes().hash(state);
+    }
+}
+
+#[cfg(test)]
+mod tests {
+    use super::*;
+
+    fn is_read(word: &str) -> bool {
+        Name::read(word.as_bytes()).is_some_and(|name| name.bytes() == word.as_bytes())
+    }
+
+    #[test]
+    fn names(rt: HostRuntime) {
+        assert!(rt; is_read("x"));
+        assert!(rt; is_read("a-z_09"));
+        assert!(rt; is_read("abcdefghijklmnopqrstuvwxyz012345"));
+    }
+
+    #[test]
+    fn words_that_are_no_names(rt: HostRuntime) {
+        let words = [
+            "",
+            "X",
+            "x y",
+            "x:w",
+            "`",
+            "{",
+            "/",
+            "abcdefghijklmnopqrstuvwxyz0123456",
+        ];
+        for word in words {
+            assert!(rt; Name::read(word.as_bytes()).is_none(), "{word:?}");
+        }
+    }
+
+    #[test]
+    fn equal_names(rt: HostRuntime) {
+        assert!(rt; Name::read(b"lock") == Name::read(b"lock"));
+        assert!(rt; Name::read(b"lock") != Name::read(b"lock2"));
     }
 }

@@ -2,7 +2,7 @@
 ghost use Rattle.std.specs.Prelude.{◌≡◌, ◌+◌, ◌*◌};
 ghost use Rattle.scm_cells.specs.Widths.{values_of};
 
-/// How wide a cell is: 32 bits (`W`, a word) or 64 bits (`D`, a double word).
+/// How wide a cell is: 32 bits (`W`, a word) or 64 bits (`D`, a doubleword).
 #[derive(Clone, Copy, Debug, PartialEq, Eq, Hash)]
 pub enum Width {
     W,

@@ -1,6 +1,7 @@
 pub mod Leading
 pub mod LeadingLaws
 pub mod Walks
+pub use Rattle.scm_frontier.specs.Situated
 pub use Rattle.scm_reach.specs.Kept
 pub use Rattle.scm_sequences.specs.Traces
 pub use Rattle.scm_sequences.specs.Fronts

@@ -40,7 +40,7 @@ impl Walk {
     }
 
     /// Takes the next operation of process `p` within these lengths. False where there is none, or where it read a
-    /// value that its cell doesn't hold.
+    /// value that its cell neither holds nor leaves open.
     pub(crate) fn step(&mut self, p: usize, sequences: &Sequences, lengths: &Lengths) -> bool
         requires procs { length self.old.counts ≡ length lengths.now }
         requires cells { NamesCellsBelow (length self.old.contents) sequences.now }
@@ -68,7 +68,7 @@ impl Walk {
         }
     }
 
-    // Passes this operation of process `p`, unless it read a value that its cell doesn't hold.
+    // Passes this operation of process `p`, unless its cell holds another value than it read.
     fn pass(&mut self, p: usize, op: Op) -> bool
         requires process { p < length self.old.counts }
         requires cell { cell_of op < length self.old.contents }

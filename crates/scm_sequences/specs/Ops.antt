@@ -28,7 +28,7 @@ value_after (R c d) = d
 value_after (W c d) = d
 value_after (Rw c d e) = e
 
--- a cell that holds this value, or an open one, may give d to a read
+-- whether a cell that holds this, or is open, may give d to a read
 abbrev pub may_give : Option ℕ → ℕ → Bool
 may_give None d = true
 may_give (Some v) d = v == d

@@ -1,13 +1,19 @@
 //! Operations, the sequences of a trace, their lengths, the refusals and the limits of the product.
 #![tactic(auto)]
 
+#[cfg(test)]
+mod cut_tests;
+mod laws;
 mod lengths;
 mod limits;
 mod no_memory;
 mod op;
 mod refusal;
 mod sequences;
+#[cfg(test)]
+mod tests;
 
+pub use laws::restriction;
 pub use lengths::Lengths;
 pub use limits::{
     LONGEST_LINE, LONGEST_NAME, MOST_CELLS, MOST_ENTRIES, MOST_MARKS, MOST_OPERATIONS,

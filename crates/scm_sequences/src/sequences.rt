@@ -3,7 +3,8 @@ ghost use Rattle.std.specs.Prelude.{◌≡◌, ℕ, ◌<◌, ◌≤◌, ◌↔�
 ghost use Rattle.scm_sequences.specs.declared.limits.TheConstants.{MOST_OPERATIONS, MOST_PROCESSES};
 ghost use Rattle.scm_sequences.specs.Refusals.{Refuses};
 ghost use Rattle.scm_sequences.specs.Ops.{cell_of, NamesCellsBelow};
-ghost use Rattle.scm_sequences.specs.Sequences.{operation, operations, pushed, lengths_of, push_refusal, AreSequences};
+ghost use Rattle.scm_sequences.specs.Lengths.{IsWithin};
+ghost use Rattle.scm_sequences.specs.Sequences.{operation, operations, pushed, lengths_of, push_refusal, cut_lists, AreSequences};
 
 use crate::{Lengths, MOST_OPERATIONS, MOST_PROCESSES, NoMemory, Op, Refusal};
 use std::alloc::Global;
@@ -96,6 +97,16 @@ impl Sequences {
         self.lists.get(p).map_or(0, |list| list.len())
     }
 
+    /// The operations of process `p`, in order: none where there is no such process.
+    pub fn operations(&self, p: usize) -> &[Op]
+        ensures { result.now ≡ operations self.now p }
+    {
+        match self.lists.get(p) {
+            Some(list) => list.as_slice(),
+            None => &[],
+        }
+    }
+
     /// How many operations each process has.
     pub fn lengths(&self) -> Lengths
         ensures { result ≡ lengths_of self.now }
@@ -105,6 +116,16 @@ impl Sequences {
             counts[p] = list.len() as u32;
         }
         Lengths::new(*self.lists.allocator(), &counts[..self.lists.len()])
+    }
+
+    /// Keeps of each process as many of its first operations as these lengths say. It takes no memory.
+    pub fn cut(&mut self, lengths: &Lengths)
+        requires { IsWithin lengths.now (lengths_of self.old) }
+        ensures { self.new ≡ cut_lists self.old lengths.now }
+    {
+        for (p, list) in self.lists.iter_mut().enumerate() {
+            list.truncate(lengths.get(p) as usize);
+        }
     }
 
     /// Whether every operation names a cell below `n`.

@@ -8,14 +8,14 @@ use Rattle.scm_cells.specs.Names.{is_name}
 use Rattle.scm_cells.specs.Numbers.{count_of_word, number_of_word}
 use Rattle.scm_lowering.specs.Accesses.{access_of_words}
 use Rattle.scm_book.specs.declared.call.Decl.{Decl}
-use Rattle.scm_book.specs.Calls.{CallData, opens, claims, reports, asks}
+use Rattle.scm_book.specs.Calls.{CallData, opens, claims, reports, shows, asks}
 use Rattle.scm_sessions.specs.Lines.{Line, too_long, text}
 use Rattle.scm_sessions.specs.Words.{words_of}
 
 pub data Asked : Type 0 where
   -- no reply
   nothing : Asked
-  -- a bad line, under the name of its session where its first word is one
+  -- a bad line, under the name of its session where its first word is a name
   bad : Option (List ℕ) → Asked
   -- a call of the session of this name
   good : List ℕ → CallData → Asked
@@ -33,8 +33,8 @@ width_of_letter b = if b == 119 then Some W else (if b == 100 then Some D else N
 abbrev pub declaration_of : List ℕ → List ℕ → Option Decl
 declaration_of name (letter ∷ equals ∷ number) =
     if is_name name && equals == 61 then
-      option_and_then (λ width. option_map (λ initial. record { name = name; width = width; initial = initial })
-        (number_of_word number)) (width_of_letter letter)
+    option_and_then (λ width. option_map (λ initial. record { name = name; width = width; initial = initial })
+    (number_of_word number)) (width_of_letter letter)
     else None
 declaration_of name _ = None
 
@@ -51,12 +51,12 @@ declarations_of_words (word ∷ words) =
 abbrev pub open_of_words : List (List ℕ) → Option CallData
 open_of_words (trace ∷ procs ∷ budget ∷ words) =
     if is_name trace then
-      option_and_then (λ procs. option_and_then (λ budget. option_map (λ decls. opens trace procs budget decls)
-        (declarations_of_words words)) (count_of_word budget)) (count_of_word procs)
+    option_and_then (λ procs. option_and_then (λ budget. option_map (λ decls. opens trace procs budget decls)
+    (declarations_of_words words)) (count_of_word budget)) (count_of_word procs)
     else None
 open_of_words _ = None
 
--- ---- claim T p, do T p ACCESS, ask T
+-- ---- claim T p, do T p ACCESS, show T p, ask T
 
 abbrev pub claim_of_words : List (List ℕ) → Option CallData
 claim_of_words (trace ∷ process ∷ []) =
@@ -66,9 +66,14 @@ claim_of_words _ = None
 abbrev pub report_of_words : List (List ℕ) → Option CallData
 report_of_words (trace ∷ process ∷ words) =
     if is_name trace then
-      option_and_then (λ p. option_map (λ access. reports trace p access) (access_of_words words)) (count_of_word process)
+    option_and_then (λ p. option_map (λ access. reports trace p access) (access_of_words words)) (count_of_word process)
     else None
 report_of_words _ = None
+
+abbrev pub show_of_words : List (List ℕ) → Option CallData
+show_of_words (trace ∷ process ∷ []) =
+    if is_name trace then option_map (λ p. shows trace p) (count_of_word process) else None
+show_of_words _ = None
 
 abbrev pub ask_of_words : List (List ℕ) → Option CallData
 ask_of_words (trace ∷ []) = if is_name trace then Some (asks trace) else None
@@ -81,8 +86,9 @@ call_of_words (command ∷ words) =
     if is_word command (codes "open") then open_of_words words
     else (if is_word command (codes "claim") then claim_of_words words
     else (if is_word command (codes "do") then report_of_words words
+    else (if is_word command (codes "show") then show_of_words words
     else (if is_word command (codes "ask") then ask_of_words words
-    else None)))
+    else None))))
 
 abbrev pub asked_by_words : List (List ℕ) → Asked
 asked_by_words [] = nothing

@@ -1,13 +1,18 @@
 -- The lines of a script. A script is a list of bytes, cut at each line feed; bytes after the last line feed are a
 -- line too where there are any. A carriage return at the end of a line is dropped. A line that has more than
 -- LONGEST_LINE bytes before that drop is too long. This project's profile.
-use Rattle.std.specs.Prelude.{ℕ, ◌≢◌, List, [], ◌∷◌, length, map, All, nat_lt, ◌==◌, if◌then◌else◌}
+use Rattle.std.specs.Prelude.{ℕ, ◌≢◌, List, [], ◌∷◌, length, map, All, nat_lt, ◌==◌, if◌then◌else◌, Option, None, Some}
 use Rattle.std.specs.Io.BufRead.{strip_last}
 use Rattle.scm_sequences.specs.declared.limits.TheConstants.{LONGEST_LINE}
 
 pub data Line : Type 0 where
   too_long : Line
   text : List ℕ → Line
+
+-- a line from its bytes, None where it is too long
+abbrev pub line_given : Option (List ℕ) → Line
+line_given None = too_long
+line_given (Some bytes) = text bytes
 
 -- a byte that is no line feed goes on in front of the first piece, or is a piece of its own
 abbrev pub onto_first : ℕ → List (List ℕ) → List (List ℕ)

@@ -1,7 +1,7 @@
 -- A script run: the machine and the entered names of sessions, line by line. The place of a name is the number of its
 -- session. This project's profile.
-use Rattle.std.specs.Prelude.{ℕ, ◌≡◌, ◌⊎◌, List, [], ◌∷◌, ◌++◌, length, Bool, not, ◌&&◌, nat_le, if◌then◌else◌, Option, Some, MatchBool, ◌+◌}
-use Rattle.std.specs.List.{list_any}
+use Rattle.std.specs.Prelude.{ℕ, ◌≡◌, ◌⊎◌, List, [], ◌∷◌, ◌++◌, length, Bool, not, ◌&&◌, nat_le, if◌then◌else◌, Option, Some, MatchBool}
+use Rattle.std.specs.List.{list_any, position_or_len}
 use Rattle.std.specs.Io.KnownBytes.{Consumes, Appends, IsAtEnd}
 use Rattle.scm_sequences.specs.declared.refusal.Refusal.TheVariants.{BadLine, NoMemory, TooManySessions}
 use Rattle.scm_sequences.specs.declared.limits.TheConstants.{MOST_SESSIONS}
@@ -19,10 +19,13 @@ pub record ScriptState : Type 0 where
   pub names : List (List ℕ)
   pub machine : Machine
 
+-- these names, and this machine
+abbrev pub script_state : List (List ℕ) → Machine → ScriptState
+script_state names machine = record { names = names; machine = machine }
+
 -- the place of a name among the entered ones, or the next free place
 abbrev pub session_of : List (List ℕ) → List ℕ → ℕ
-session_of [] name = 0
-session_of (other ∷ others) name = if name_eq name other then 0 else session_of others name + 1
+session_of names name = position_or_len (name_eq name) names
 
 abbrev pub is_entered : List (List ℕ) → List ℕ → Bool
 is_entered names name = list_any (λ other. name_eq name other) names
@@ -36,13 +39,13 @@ abbrev pub is_turned_away : List (List ℕ) → List ℕ → Bool
 is_turned_away names name = not (is_entered names name) && nat_le MOST_SESSIONS (length names)
 
 -- a call of the session of this name leads from old to new with this reply: the name is entered and the machine makes
--- a step; or a new name is turned away; or memory was refused, and the machine is as it was
+-- a step; or a new name is turned away; or memory was refused, and the machine is as it was (a new name may be entered then or not)
 abbrev pub AnswersCall : ScriptState → List ℕ → CallData → ReplyData → ScriptState → Type 0
 AnswersCall old name call reply new =
     MatchBool (is_turned_away old.names name)
-      ((reply ≡ refused TooManySessions) × (new ≡ old))
-      ((new.names ≡ with_name old.names name)
-        × IsStepOrNoMemory old.machine (session_of old.names name) call reply new.machine)
+    ((reply ≡ refused TooManySessions) × (new ≡ old))
+    ((new.names ≡ with_name old.names name)
+    × IsStepOrNoMemory old.machine (session_of old.names name) call reply new.machine)
     ⊎ ((reply ≡ refused NoMemory) × (new ≡ old))
 
 -- a line that asks this leads from old to new and writes this text
@@ -89,6 +92,7 @@ pub record RunsPart (script left written after : Option (List ℕ)) (old : Scrip
   pub text : List ℕ
   pub new : ScriptState
   pub consumed : Consumes script left bytes
-  pub read : lines_of bytes ≡ lines ++ others
+  -- these bytes may break off inside a line, which is no line until the script ends
+  pub read : (whole_lines_of bytes ≡ lines ++ others) ⊎ (IsAtEnd left × (lines_of bytes ≡ lines ++ others))
   pub appended : AppendsPart written after text
   pub run : IsScriptRun old lines text new

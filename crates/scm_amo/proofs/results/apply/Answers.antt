@@ -10,26 +10,29 @@ returns-in-And-W-clause-value c =
     c.from-in-And-W.ensures ∙ and_result _ _ _ _ c.in-And-W.is-0 c.requires.old_in_width c.requires.operand_in_width
 
 pub returns-in-And-D-clause-value : goal.returns-in-And-D-clause-value
-returns-in-And-D-clause-value c = and_result _ _ _ _ c.in-And-D.is-0 c.requires.old_in_width c.requires.operand_in_width
+returns-in-And-D-clause-value c =
+    c.from-in-And-D.ensures ∙ and_result _ _ _ _ c.in-And-D.is-0 c.requires.old_in_width c.requires.operand_in_width
 
 pub returns-in-Or-W-clause-value : goal.returns-in-Or-W-clause-value
 returns-in-Or-W-clause-value c =
     c.from-in-Or-W.ensures ∙ or_result _ _ _ _ c.in-Or-W.is-0 c.requires.old_in_width c.requires.operand_in_width
 
 pub returns-in-Or-D-clause-value : goal.returns-in-Or-D-clause-value
-returns-in-Or-D-clause-value c = or_result _ _ _ _ c.in-Or-D.is-0 c.requires.old_in_width c.requires.operand_in_width
+returns-in-Or-D-clause-value c =
+    c.from-in-Or-D.ensures ∙ or_result _ _ _ _ c.in-Or-D.is-0 c.requires.old_in_width c.requires.operand_in_width
 
 pub returns-in-Or-D-clause-in_width : goal.returns-in-Or-D-clause-in_width
 returns-in-Or-D-clause-in_width c =
-    or_lt (bits_of c.args.width) _ _ c.requires.old_in_width c.requires.operand_in_width
+    rw c.from-in-Or-D.ensures (or_lt (bits_of c.args.width) _ _ c.requires.old_in_width c.requires.operand_in_width)
 
 pub returns-in-Xor-W-clause-value : goal.returns-in-Xor-W-clause-value
 returns-in-Xor-W-clause-value c =
     c.from-in-Xor-W.ensures ∙ xor_result _ _ _ _ c.in-Xor-W.is-0 c.requires.old_in_width c.requires.operand_in_width
 
 pub returns-in-Xor-D-clause-value : goal.returns-in-Xor-D-clause-value
-returns-in-Xor-D-clause-value c = xor_result _ _ _ _ c.in-Xor-D.is-0 c.requires.old_in_width c.requires.operand_in_width
+returns-in-Xor-D-clause-value c =
+    c.from-in-Xor-D.ensures ∙ xor_result _ _ _ _ c.in-Xor-D.is-0 c.requires.old_in_width c.requires.operand_in_width
 
 pub returns-in-Xor-D-clause-in_width : goal.returns-in-Xor-D-clause-in_width
 returns-in-Xor-D-clause-in_width c =
-    xor_lt (bits_of c.args.width) _ _ c.requires.old_in_width c.requires.operand_in_width
+    rw c.from-in-Xor-D.ensures (xor_lt (bits_of c.args.width) _ _ c.requires.old_in_width c.requires.operand_in_width)

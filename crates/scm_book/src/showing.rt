@@ -1,0 +1,36 @@
+//! The operations of a process as they are shown.
+ghost use Rattle.std.specs.Prelude.{◌≡◌, ◌<◌, length, map, All, IfOk};
+ghost use Rattle.scm_sequences.specs.Ops.{cell_of};
+ghost use Rattle.scm_book.specs.Showing.{shown_operation};
+
+use crate::Shown;
+use scm_cells::Cells;
+use scm_sequences::{NoMemory, Op};
+use std::alloc::Global;
+
+/// The operation with the name of its cell.
+fn show(cells: &Cells, op: Op) -> Shown
+    requires { cell_of op < length cells.now }
+    ensures { result ≡ shown_operation cells.now op }
+{
+    Shown {
+        cell: cells.name(op.cell()),
+        op,
+    }
+}
+
+/// These operations, each with the name of its cell.
+pub(crate) fn show_all(
+    alloc: Global,
+    cells: &Cells,
+    operations: &[Op],
+) -> Result<Vec<Shown>, NoMemory>
+    requires { All (λ op. cell_of op < length cells.now) operations.now }
+    ensures { IfOk result (λ shown. shown.items ≡ map (shown_operation cells.now) operations.now) }
+{
+    let mut shown = Vec::with_capacity(alloc, operations.len())?;
+    for op in operations {
+        shown.push(show(cells, *op))?;
+    }
+    Ok(shown)
+}

@@ -1,0 +1,259 @@
+//! The calls on their happy paths, and each refusal of each call once.
+
+use crate::{Book, Call, Decl, Reply};
+use scm_cells::{Name, Num, Width};
+use scm_lowering::Access;
+use scm_sequences::{
+    MOST_CELLS, MOST_OPERATIONS, MOST_PROCESSES, MOST_SITUATIONS, MOST_TRACES, Refusal,
+};
+use std::process::Abort;
+use std::test::Fail;
+
+/// The sessions of the tests.
+const ANNA: u16 = 1;
+
+const BERT: u16 = 2;
+
+fn name(rt: &impl Abort, word: &[u8]) -> Name {
+    Name::read(word).expect(rt, "a name")
+}
+
+/// A cell of 32 bits that holds 0 at first.
+fn cell(rt: &impl Abort, word: &[u8]) -> Decl {
+    Decl {
+        name: name(rt, word),
+        width: Width::W,
+        initial: Num::Plain(0),
+    }
+}
+
+fn load(rt: &impl Abort, word: &[u8], value: u64) -> Access {
+    Access::Load {
+        width: Width::W,
+        cell: name(rt, word),
+        value: Num::Plain(value),
+    }
+}
+
+fn store(rt: &impl Abort, word: &[u8], value: u64) -> Access {
+    Access::Store {
+        width: Width::W,
+        cell: name(rt, word),
+        value: Num::Plain(value),
+    }
+}
+
+fn is_done(reply: Reply) -> bool {
+    matches!(reply, Reply::Done)
+}
+
+fn assert_refused(rt: &impl Abort, reply: Reply, refusal: Refusal) {
+    let Reply::Refused(given) = reply else {
+        panic!(rt; "not refused");
+    };
+    assert_eq!(rt; given, refusal);
+}
+
+/// Opens the trace t of two processes, which Anna and Bert claim, with the cells x and y.
+fn open_two(rt: &impl Abort, book: &mut Book, budget: u64) {
+    let t = name(rt, b"t");
+    let cells = [cell(rt, b"x"), cell(rt, b"y")];
+    assert!(rt; is_done(book.open(ANNA, t, 2, budget, &cells)));
+    assert!(rt; is_done(book.claim(ANNA, t, 0)));
+    assert!(rt; is_done(book.claim(BERT, t, 1)));
+}
+
+/// Reports that Anna stores 1 in x and then in y, and that Bert loads 1 from y and then this from x.
+fn pass_message(rt: &impl Abort, book: &mut Book, last: u64) {
+    let t = name(rt, b"t");
+    assert!(rt; is_done(book.report(ANNA, t, 0, &store(rt, b"x", 1))));
+    assert!(rt; is_done(book.report(ANNA, t, 0, &store(rt, b"y", 1))));
+    assert!(rt; is_done(book.report(BERT, t, 1, &load(rt, b"y", 1))));
+    assert!(rt; is_done(book.report(BERT, t, 1, &load(rt, b"x", last))));
+}
+
+#[test]
+fn message_passing_is_consistent(rt: HostRuntime) -> Result<(), Fail> {
+    let mut book = Book::new(rt.alloc());
+    open_two(&rt, &mut book, 100);
+    pass_message(&rt, &mut book, 1);
+    let Reply::Consistent(schedule) = book.ask(BERT, name(&rt, b"t")) else {
+        return Err("not consistent".into());
+    };
+    assert_eq!(rt; schedule.as_slice(), [0, 0, 1, 1].as_slice());
+    Ok(())
+}
+
+#[test]
+fn message_lost_is_inconsistent(rt: HostRuntime) {
+    let mut book = Book::new(rt.alloc());
+    open_two(&rt, &mut book, 100);
+    pass_message(&rt, &mut book, 0);
+    assert!(rt; matches!(book.ask(ANNA, name(&rt, b"t")), Reply::Inconsistent));
+}
+
+#[test]
+fn small_budget_is_undecided(rt: HostRuntime) {
+    let mut book = Book::new(rt.alloc());
+    open_two(&rt, &mut book, 1);
+    pass_message(&rt, &mut book, 0);
+    assert!(rt; matches!(book.ask(ANNA, name(&rt, b"t")), Reply::Undecided));
+}
+
+#[test]
+fn calls_are_copied_and_made(rt: HostRuntime) -> Result<(), Fail> {
+    let t = name(&rt, b"t");
+    let mut book = Book::new(rt.alloc());
+    let open = Call::OpenTrace {
+        name: t,
+        procs: 1,
+        budget: 1,
+        cells: vec![in rt.alloc(); cell(&rt, b"x")]?,
+    };
+    assert!(rt; is_done(book.call(ANNA, open.copy()?)));
+    assert_refused(&rt, book.call(ANNA, open), Refusal::NameTaken);
+    let claim = Call::ClaimProcess {
+        name: t,
+        process: 0,
+    };
+    assert!(rt; is_done(book.call(ANNA, claim.copy()?)));
+    assert_refused(&rt, book.call(ANNA, claim), Refusal::ProcessTaken);
+    let report = Call::Report {
+        name: t,
+        process: 0,
+        access: load(&rt, b"x", 0),
+    };
+    assert!(rt; is_done(book.call(ANNA, report.copy()?)));
+    let verdict = book.call(ANNA, Call::Ask { name: t }.copy()?);
+    assert!(rt; matches!(verdict.copy()?, Reply::Undecided));
+    Ok(())
+}
+
+#[test]
+fn bad_declarations_are_refused(rt: HostRuntime) -> Result<(), Fail> {
+    let t = name(&rt, b"t");
+    let mut book = Book::new(rt.alloc());
+    let one = [cell(&rt, b"x")];
+    let twice = [cell(&rt, b"x"), cell(&rt, b"x")];
+    let too_wide = [Decl {
+        initial: Num::Plain(1 << 32),
+        ..cell(&rt, b"x")
+    }];
+    let mut many = Vec::new(rt.alloc());
+    for i in 0..=MOST_CELLS as u8 {
+        many.push(cell(&rt, &[b'a' + i]))?;
+    }
+    let bad = Refusal::BadDeclaration;
+    assert_refused(&rt, book.open(ANNA, t, 0, 0, &one), bad);
+    assert_refused(
+        &rt,
+        book.open(ANNA, t, MOST_PROCESSES as u64 + 1, 0, &one),
+        bad,
+    );
+    assert_refused(&rt, book.open(ANNA, t, 1, 0, &[]), bad);
+    assert_refused(&rt, book.open(ANNA, t, 1, 0, &many), bad);
+    assert_refused(&rt, book.open(ANNA, t, 1, 0, &twice), bad);
+    assert_refused(&rt, book.open(ANNA, t, 1, 0, &too_wide), bad);
+    let _last = many.pop();
+    let opened = book.open(
+        ANNA,
+        t,
+        MOST_PROCESSES as u64,
+        MOST_SITUATIONS as u64,
+        &many,
+    );
+    assert!(rt; is_done(opened));
+    Ok(())
+}
+
+#[test]
+fn bad_budgets_and_taken_names_are_refused(rt: HostRuntime) {
+    let t = name(&rt, b"t");
+    let mut book = Book::new(rt.alloc());
+    let cells = [cell(&rt, b"x")];
+    assert!(rt; is_done(book.open(ANNA, t, 1, 1, &cells)));
+    assert_refused(&rt, book.open(BERT, t, 1, 0, &cells), Refusal::BadBudget);
+    let past = MOST_SITUATIONS as u64 + 1;
+    assert_refused(&rt, book.open(BERT, t, 1, past, &cells), Refusal::BadBudget);
+    assert_refused(&rt, book.open(BERT, t, 1, 1, &cells), Refusal::NameTaken);
+}
+
+#[test]
+fn traces_past_the_most_are_refused(rt: HostRuntime) {
+    let mut book = Book::new(rt.alloc());
+    let cells = [cell(&rt, b"x")];
+    for i in 0..MOST_TRACES as u8 {
+        let word = [b'a' + i / 8, b'a' + i % 8];
+        assert!(rt; is_done(book.open(ANNA, name(&rt, &word), 1, 1, &cells)));
+    }
+    let taken = book.open(ANNA, name(&rt, b"aa"), 1, 1, &cells);
+    assert_refused(&rt, taken, Refusal::NameTaken);
+    let more = book.open(ANNA, name(&rt, b"t"), 1, 1, &cells);
+    assert_refused(&rt, more, Refusal::TooManyTraces);
+}
+
+#[test]
+fn claims_are_refused(rt: HostRuntime) {
+    let mut book = Book::new(rt.alloc());
+    open_two(&rt, &mut book, 1);
+    let t = name(&rt, b"t");
+    let u = name(&rt, b"u");
+    assert_refused(&rt, book.claim(ANNA, u, 2), Refusal::NoSuchTrace);
+    assert_refused(&rt, book.claim(ANNA, t, 2), Refusal::NoSuchProcess);
+    assert_refused(&rt, book.claim(ANNA, t, 0), Refusal::ProcessTaken);
+    assert_refused(&rt, book.claim(ANNA, t, 1), Refusal::ProcessTaken);
+}
+
+#[test]
+fn reports_are_refused(rt: HostRuntime) {
+    let mut book = Book::new(rt.alloc());
+    open_two(&rt, &mut book, 1);
+    let t = name(&rt, b"t");
+    let u = name(&rt, b"u");
+    let nowhere = load(&rt, b"z", 0);
+    assert_refused(&rt, book.report(ANNA, u, 2, &nowhere), Refusal::NoSuchTrace);
+    assert_refused(
+        &rt,
+        book.report(ANNA, t, 2, &nowhere),
+        Refusal::NoSuchProcess,
+    );
+    assert_refused(&rt, book.report(BERT, t, 0, &nowhere), Refusal::NotClaimed);
+    assert_refused(&rt, book.report(ANNA, t, 0, &nowhere), Refusal::NoSuchCell);
+    let wider = Access::Load {
+        width: Width::D,
+        cell: name(&rt, b"x"),
+        value: Num::Beyond,
+    };
+    assert_refused(&rt, book.report(ANNA, t, 0, &wider), Refusal::WidthMismatch);
+    let beyond = load(&rt, b"x", 1 << 32);
+    assert_refused(
+        &rt,
+        book.report(ANNA, t, 0, &beyond),
+        Refusal::ValueOutOfRange,
+    );
+}
+
+#[test]
+fn operations_past_the_most_are_refused(rt: HostRuntime) {
+    let mut book = Book::new(rt.alloc());
+    open_two(&rt, &mut book, 1);
+    let t = name(&rt, b"t");
+    let access = load(&rt, b"x", 0);
+    for _ in 0..MOST_OPERATIONS {
+        assert!(rt; is_done(book.report(ANNA, t, 0, &access)));
+    }
+    let beyond = load(&rt, b"x", 1 << 32);
+    assert_refused(
+        &rt,
+        book.report(ANNA, t, 0, &beyond),
+        Refusal::ValueOutOfRange,
+    );
+    assert_refused(&rt, book.report(ANNA, t, 0, &access), Refusal::SequenceFull);
+    assert!(rt; is_done(book.report(BERT, t, 1, &access)));
+}
+
+#[test]
+fn questions_are_refused(rt: HostRuntime) {
+    let mut book = Book::new(rt.alloc());
+    assert_refused(&rt, book.ask(ANNA, name(&rt, b"t")), Refusal::NoSuchTrace);
+}

@@ -1,0 +1,15 @@
+//! The worked rows: whole scripts, each with the replies that it must give.
+#![tactic(auto)]
+
+#[cfg(test)]
+mod accesses;
+#[cfg(test)]
+mod budgets;
+#[cfg(test)]
+mod lines;
+#[cfg(test)]
+mod litmus;
+#[cfg(test)]
+mod refusals;
+#[cfg(test)]
+mod script;

@@ -1,0 +1,94 @@
+//! Refusals: each leaves everything as it was.
+use crate::script::{expect_replies, replies_to};
+use scm_sequences::MOST_OPERATIONS;
+use std::test::Fail;
+
+/// Declarations that are refused, in the order in which the causes are tried.
+#[test]
+fn bad_declarations(rt: HostRuntime) {
+    expect_replies(
+        &rt,
+        rt.alloc(),
+        "a open t 9 100 x:w=0\na open t 0 100 x:w=0\na open t 1 100\na open t 1 100 x:w=0 x:w=0\n\
+         a open t 1 100 x:w=4294967296\na open t 1 0 x:w=0\na open t 1 1000001 x:w=0\n\
+         a open t 1 100 x:q=0\na open t 9 0 x:w=0\na open t 1 1 x:w=0\na open t 1 0 x:w=0\n\
+         a open t 1 1 x:w=0\n",
+        "a refused 5 bad-declaration\na refused 5 bad-declaration\na refused 5 bad-declaration\n\
+         a refused 5 bad-declaration\na refused 5 bad-declaration\na refused 16 bad-budget\n\
+         a refused 16 bad-budget\na refused 1 bad-line\na refused 5 bad-declaration\na ok\n\
+         a refused 16 bad-budget\na refused 3 name-taken\n",
+    );
+}
+
+/// Sixteen cells are taken, seventeen aren't.
+#[test]
+fn seventeen_cells(rt: HostRuntime) {
+    expect_replies(
+        &rt,
+        rt.alloc(),
+        "a open t 8 1000000 c0:w=0 c1:w=0 c2:w=0 c3:w=0 c4:w=0 c5:w=0 c6:w=0 c7:w=0 c8:w=0 c9:w=0 c10:w=0 c11:w=0 c12:w=0 c13:w=0 c14:w=0 c15:w=0\n\
+         a open u 1 1 c0:w=0 c1:w=0 c2:w=0 c3:w=0 c4:w=0 c5:w=0 c6:w=0 c7:w=0 c8:w=0 c9:w=0 c10:w=0 c11:w=0 c12:w=0 c13:w=0 c14:w=0 c15:w=0 c16:w=0\n",
+        "a ok\na refused 5 bad-declaration\n",
+    );
+}
+
+/// Claims of another's process, reports without a claim, names that aren't there.
+#[test]
+fn foreign_callers(rt: HostRuntime) {
+    expect_replies(
+        &rt,
+        rt.alloc(),
+        "a open t 2 100 x:w=0\na claim t 0\nb claim t 0\na claim t 0\na claim t 2\nb claim u 0\n\
+         c do t 0 sw x 1\na do t 1 sw x 1\na do t 9 sw x 1\na do t 0 sw q 1\na do u 0 sw x 1\n\
+         a do t 0 sw x 4294967296\na fly t\na ask u\na ask t\n",
+        "a ok\na ok\nb refused 7 process-taken\na refused 7 process-taken\n\
+         a refused 6 no-such-process\nb refused 2 no-such-trace\nc refused 8 not-claimed\n\
+         a refused 8 not-claimed\na refused 6 no-such-process\na refused 10 no-such-cell\n\
+         a refused 2 no-such-trace\na refused 12 value-out-of-range\na refused 1 bad-line\n\
+         a refused 2 no-such-trace\na consistent 0\n",
+    );
+}
+
+/// A process with as many operations as it can have refuses one more.
+#[test]
+fn sequence_full(rt: HostRuntime) -> Result<(), Fail> {
+    let mut script = Vec::new(rt.alloc());
+    script.extend_from_slice(b"a open t 1 1 x:w=0\na claim t 0\n")?;
+    for _ in 0..MOST_OPERATIONS {
+        script.extend_from_slice(b"a do t 0 sw x 1\n")?;
+    }
+    script.extend_from_slice(b"a do t 0 sw x 1\na ask t\n")?;
+    let written = replies_to(rt.alloc(), script.as_slice()).expect(
+        &rt,
+        "the run ended without a fault",
+    );
+    assert!(rt;
+        written
+            .as_slice()
+            .ends_with(b"\na ok\na refused 13 sequence-full\na undecided\n")
+    );
+    Ok(())
+}
+
+/// Sixty-four traces are open: a name that is taken is refused as such, a new one for want of places.
+#[test]
+fn too_many_traces(rt: HostRuntime) -> Result<(), Fail> {
+    let mut script = Vec::new(rt.alloc());
+    for number in 0..64u8 {
+        script.extend_from_slice(b"a open t")?;
+        let name = format!(in rt.alloc(); "{number}")?;
+        script.extend_from_slice(name.as_bytes())?;
+        script.extend_from_slice(b" 1 1 x:w=0\n")?;
+    }
+    script.extend_from_slice(b"a open t5 1 1 x:w=0\na open v 1 1 x:w=0\n")?;
+    let written = replies_to(rt.alloc(), script.as_slice()).expect(
+        &rt,
+        "the run ended without a fault",
+    );
+    assert!(rt;
+        written.as_slice().ends_with(
+            b"\na ok\na refused 3 name-taken\na refused 4 too-many-traces\n"
+        )
+    );
+    Ok(())
+}

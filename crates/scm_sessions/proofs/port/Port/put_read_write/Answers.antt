@@ -1,0 +1,5 @@
+use Rattle.scm_sessions.proofs.Sent.{Sends-trans}
+use Rattle.scm_sessions.proofs.port.Port.put_read_write.Goals as goal
+
+pub returns-clause-bytes : goal.returns-clause-bytes
+returns-clause-bytes g c = Sends-trans c.put_labelled.ensures.bytes c.put_value.ensures.bytes

@@ -1,0 +1,14 @@
+pub mod Ports
+pub mod Lines
+pub mod Reading
+pub mod Words
+pub mod Asking
+pub mod Replies
+pub mod Script
+pub use Rattle.scm_sequences.specs.Refusals
+pub use Rattle.scm_cells.specs.Names
+pub use Rattle.scm_cells.specs.Numbers
+pub use Rattle.scm_lowering.specs.Accesses
+pub use Rattle.scm_book.specs.Calls
+pub use Rattle.scm_book.specs.Machine
+pub use Rattle.scm_book.specs.Steps

@@ -1,0 +1,71 @@
+//! The declarations of cells in a line.
+ghost use Rattle.std.specs.Prelude.{◌≡◌, ◌==◌, ◌<◌, length, position, IfSome, ◌⊎◌, None, Some, map, IfOk, IfErr};
+ghost use Rattle.scm_sequences.specs.declared.refusal.Refusal.TheVariants.{BadLine, NoMemory};
+ghost use Rattle.scm_sessions.specs.Asking.{width_of_letter, declaration_of, declaration_of_word, declarations_of_words};
+
+use scm_book::Decl;
+use scm_cells::{Name, Width, read_num};
+use scm_sequences::Refusal;
+use std::alloc::Global;
+
+/// The width that a letter stands for.
+fn read_width(letter: u8) -> Option<Width>
+    ensures { result ≡ width_of_letter letter }
+{
+    match letter {
+        b'w' => Some(Width::W),
+        b'd' => Some(Width::D),
+        _ => None,
+    }
+}
+
+/// The cell of this name, with what stands after its colon: the letter of its width, an equals sign and a number.
+fn declaration(name: &[u8], rest: &[u8]) -> Option<Decl>
+    ensures { result ≡ declaration_of name.now rest.now }
+{
+    let [letter, equals, number @ ..] = rest else {
+        return None;
+    };
+    if *equals != b'=' {
+        return None;
+    }
+    Some(Decl {
+        name: Name::read(name)?,
+        width: read_width(*letter)?,
+        initial: read_num(number)?,
+    })
+}
+
+/// Where the first colon of a word stands.
+fn colon_in(word: &[u8]) -> Option<usize>
+    ensures place { result ≡ position (λ b. b == 58) word.now }
+    ensures within { IfSome result (λ place. place < length word.now) }
+{
+    word.iter().position(|&byte| byte == b':')
+}
+
+/// The cell that a word declares, which is cut at its first colon.
+fn read_declaration(word: &[u8]) -> Option<Decl>
+    ensures { result ≡ declaration_of_word word.now }
+{
+    let colon = colon_in(word)?;
+    declaration(&word[..colon], &word[colon + 1..])
+}
+
+/// The cells that these words declare. Refused `BadLine` where a word declares none, or `NoMemory`.
+pub(crate) fn read_declarations(alloc: Global, words: &[&[u8]]) -> Result<Vec<Decl>, Refusal>
+    ensures ok { IfOk result (λ decls. declarations_of_words (map (λ word. word.now) words.now) ≡ Some decls.items) }
+    ensures err { IfErr result (λ refusal.
+        ((refusal ≡ BadLine) × (declarations_of_words (map (λ word. word.now) words.now) ≡ None)) ⊎ (refusal ≡ NoMemory)) }
+{
+    let mut decls = Vec::new(alloc);
+    for word in words {
+        let Some(decl) = read_declaration(word) else {
+            return Err(Refusal::BadLine);
+        };
+        if decls.push(decl).is_err() {
+            return Err(Refusal::NoMemory);
+        }
+    }
+    Ok(decls)
+}

@@ -1,0 +1,108 @@
+//! The text of replies.
+ghost use Rattle.std.specs.Prelude.{◌≡◌, codes, false, is_err, option_copied, unwrap_or, IfErr};
+ghost use Rattle.scm_book.specs.Calls.{reply_data, consistent, refused};
+ghost use Rattle.scm_sessions.specs.Ports.{inner_of, has_failed, reads_of, Writes, Sends};
+ghost use Rattle.scm_sessions.specs.Replies.{reply_text, reply_line};
+
+use crate::{Port, RunFault};
+use scm_book::Reply;
+use scm_cells::Name;
+use scm_sequences::Refusal;
+use std::io::Write;
+
+/// The reply to a line, and the name of the session that it goes to, where the line has one.
+#[derive(Drop, Debug)]
+pub(crate) struct Answer {
+    pub(crate) name: Option<Name>,
+    pub(crate) reply: Reply,
+}
+
+/// The name of a session as it stands in a reply.
+fn shown(name: Option<&Name>) -> &[u8]
+    ensures { result.now ≡ unwrap_or (option_copied name.entry) (codes "?") }
+{
+    match name {
+        Some(name) => name.bytes(),
+        None => b"?",
+    }
+}
+
+impl<W: Write> Port<W> {
+    /// Puts the reply that a trace is consistent, with the process numbers of a schedule.
+    fn put_consistent(&mut self, schedule: &[u8])
+        ensures bytes { Sends (W.contents (inner_of self.old)) (has_failed self.old)
+            (W.contents (inner_of self.new)) (has_failed self.new) (reply_text (consistent schedule.now)) }
+        ensures reads { reads_of self.new ≡ reads_of self.old }
+    {
+        self.put(b"consistent ");
+        self.put_number(schedule.len() as u64);
+        self.put_spaced(schedule);
+    }
+
+    /// Puts a refusal: its number and its words.
+    fn put_refused(&mut self, refusal: Refusal)
+        ensures bytes { Sends (W.contents (inner_of self.old)) (has_failed self.old)
+            (W.contents (inner_of self.new)) (has_failed self.new) (reply_text (refused refusal)) }
+        ensures reads { reads_of self.new ≡ reads_of self.old }
+    {
+        self.put(b"refused ");
+        self.put_number(u64::from(refusal.number()));
+        self.put(b" ");
+        self.put(refusal.text().as_bytes());
+    }
+
+    /// Puts the text of a reply.
+    fn put_reply(&mut self, reply: &Reply)
+        ensures bytes { Sends (W.contents (inner_of self.old)) (has_failed self.old)
+            (W.contents (inner_of self.new)) (has_failed self.new) (reply_text (reply_data reply.now)) }
+        ensures reads { reads_of self.new ≡ reads_of self.old }
+    {
+        match reply {
+            Reply::Done => self.put(b"ok"),
+            Reply::Consistent(schedule) => self.put_consistent(schedule),
+            Reply::Inconsistent => self.put(b"inconsistent"),
+            Reply::Undecided => self.put(b"undecided"),
+            Reply::Ops(operations) => self.put_operations(operations),
+            Reply::Refused(refusal) => self.put_refused(*refusal),
+        }
+    }
+
+    /// Puts the line of a reply.
+    fn put_reply_line(&mut self, name: Option<&Name>, reply: &Reply)
+        ensures bytes { Sends (W.contents (inner_of self.old)) (has_failed self.old)
+            (W.contents (inner_of self.new)) (has_failed self.new)
+            (reply_line (option_copied name.entry) (reply_data reply.now)) }
+        ensures reads { reads_of self.new ≡ reads_of self.old }
+    {
+        self.put(shown(name));
+        self.put(b" ");
+        self.put_reply(reply);
+        self.put(b"\n");
+    }
+}
+
+/// Writes the line of a reply under the name of its session, or under `?`, and flushes. Takes no memory.
+///
+/// Fails with `WriteFailed` where the writer fails, which has a beginning of the line then.
+pub fn write_reply<W: Write>(
+    writer: &mut Port<W>,
+    name: Option<&Name>,
+    reply: &Reply,
+) -> Result<(), RunFault>
+    requires { has_failed writer.old ≡ false }
+    ensures bytes { Writes (W.contents (inner_of writer.old)) (W.contents (inner_of writer.new)) result
+        (reply_line (option_copied name.entry) (reply_data reply.now)) }
+    ensures fault { IfErr result (λ fault. fault ≡ RunFault.WriteFailed) }
+    ensures failed { has_failed writer.new ≡ is_err result }
+    ensures reads { reads_of writer.new ≡ reads_of writer.old }
+{
+    writer.put_reply_line(name, reply);
+    if writer.failed() {
+        return Err(RunFault::WriteFailed);
+    }
+    writer.flush()?;
+    Ok(())
+}
+
+#[cfg(test)]
+mod tests;

@@ -1,0 +1,113 @@
+//! The run of a script, from bytes to bytes.
+ghost use Rattle.std.specs.Prelude.{◌≡◌, ◌≢◌, ◌↔◌, ◌≤◌, ℕ, List, [], true, false, is_err, IfOk, IfErr, OnOk, IsErrOf, option_copied, vec_capacity};
+ghost use Rattle.scm_sequences.specs.declared.limits.TheConstants.{MOST_SESSIONS};
+ghost use Rattle.scm_sessions.specs.Lines.{line_given};
+ghost use Rattle.scm_sessions.specs.Asking.{asked_by};
+ghost use Rattle.scm_sessions.specs.Ports.{inner_of, has_failed, reads_of, Writes};
+ghost use Rattle.scm_sessions.specs.Reading.{unread_of};
+ghost use Rattle.scm_sessions.specs.Script.{script_state, AnswersLine, RunsWhole, RunsWholeLines, RunsPart};
+
+use crate::reading::{Cut, LineReader};
+use crate::sessions::Sessions;
+use crate::{Port, RunFault, write_reply};
+use scm_book::Book;
+use scm_cells::Name;
+use scm_sequences::MOST_SESSIONS;
+use std::alloc::Global;
+use std::io::{Read, Write};
+
+/// Answers a line, and writes and flushes the reply where it has one; `None` stands for a line that is too long.
+fn answer_line<W: Write>(
+    alloc: Global,
+    sessions: &mut Sessions,
+    line: Option<&[u8]>,
+    writer: &mut Port<W>,
+) -> Result<(), RunFault>
+    requires { has_failed writer.old ≡ false }
+    ensures answered { (text : List ℕ)
+        × AnswersLine sessions.old (asked_by (line_given (option_copied line.entry))) text sessions.new
+        × Writes (W.contents (inner_of writer.old)) (W.contents (inner_of writer.new)) result text }
+    ensures fault { IfErr result (λ fault. fault ≡ RunFault.WriteFailed) }
+    ensures failed { has_failed writer.new ≡ is_err result }
+{
+    match sessions.answer(alloc, line) {
+        Some(answer) => write_reply(writer, answer.name.as_ref(), &answer.reply),
+        None => Ok(()),
+    }
+}
+
+/// Answers each line of the script that is left, up to a fault.
+fn run_lines<R: Read, W: Write>(
+    alloc: Global,
+    sessions: &mut Sessions,
+    lines: &mut LineReader,
+    reader: &mut Port<R>,
+    writer: &mut Port<W>,
+) -> Result<(), RunFault>
+    requires fresh { unread_of lines.old ≡ [] }
+    requires reads { has_failed reader.old ≡ false }
+    requires writes { has_failed writer.old ≡ false }
+    ensures ok { OnOk result (RunsWhole (R.remaining (inner_of reader.old)) (R.remaining (inner_of reader.new))
+        (W.contents (inner_of writer.old)) (W.contents (inner_of writer.new)) sessions.old sessions.new) }
+    ensures read_failed { IsErrOf result RunFault.ReadFailed →
+        RunsWholeLines (R.remaining (inner_of reader.old)) (R.remaining (inner_of reader.new))
+        (W.contents (inner_of writer.old)) (W.contents (inner_of writer.new)) sessions.old }
+    ensures write_failed { IsErrOf result RunFault.WriteFailed →
+        RunsPart (R.remaining (inner_of reader.old)) (R.remaining (inner_of reader.new))
+        (W.contents (inner_of writer.old)) (W.contents (inner_of writer.new)) sessions.old }
+    ensures reader_failed { IsErrOf result RunFault.ReadFailed ↔ (has_failed reader.new ≡ true) }
+    ensures writer_failed { IsErrOf result RunFault.WriteFailed ↔ (has_failed writer.new ≡ true) }
+    ensures memory { IfErr result (λ fault. fault ≢ RunFault.NoMemory) }
+{
+    'each: loop {
+        match lines.next_line(reader)? {
+            Cut::Whole => answer_line(alloc, sessions, lines.line(), writer)?,
+            Cut::Last => {
+                answer_line(alloc, sessions, lines.line(), writer)?;
+                return Ok(());
+            }
+            Cut::End => return Ok(()),
+        }
+    }
+}
+
+/// Runs a script: answers each of its lines over this book, and gives back the book and the names of the sessions, a
+/// name's place being the number of its session.
+///
+/// Each reply is written and flushed before more of the script is read than its line. The run ends early where the
+/// reader or the writer fails; it answers `NoMemory` before the first read alone. A line for which memory is refused
+/// later is answered so, and the run goes on.
+pub fn run_script<R: Read, W: Write>(
+    alloc: Global,
+    book: Book,
+    reader: &mut Port<R>,
+    writer: &mut Port<W>,
+) -> Result<(Book, Vec<Name>), RunFault>
+    requires reads { has_failed reader.old ≡ false }
+    requires writes { has_failed writer.old ≡ false }
+    ensures ok { IfOk result (λ ended. RunsWhole (R.remaining (inner_of reader.old)) (R.remaining (inner_of reader.new))
+        (W.contents (inner_of writer.old)) (W.contents (inner_of writer.new))
+        (script_state [] book.machine) (script_state ended.1.items ended.0.machine)) }
+    ensures read_failed { IsErrOf result RunFault.ReadFailed →
+        RunsWholeLines (R.remaining (inner_of reader.old)) (R.remaining (inner_of reader.new))
+        (W.contents (inner_of writer.old)) (W.contents (inner_of writer.new)) (script_state [] book.machine) }
+    ensures write_failed { IsErrOf result RunFault.WriteFailed →
+        RunsPart (R.remaining (inner_of reader.old)) (R.remaining (inner_of reader.new))
+        (W.contents (inner_of writer.old)) (W.contents (inner_of writer.new)) (script_state [] book.machine) }
+    ensures reader_failed { IsErrOf result RunFault.ReadFailed ↔ (has_failed reader.new ≡ true) }
+    ensures writer_failed { IsErrOf result RunFault.WriteFailed ↔ (has_failed writer.new ≡ true) }
+    ensures no_memory { IsErrOf result RunFault.NoMemory →
+        (inner_of reader.new ≡ inner_of reader.old) × (reads_of reader.new ≡ reads_of reader.old)
+        × (inner_of writer.new ≡ inner_of writer.old) }
+{
+    let mut lines = LineReader::new(alloc)?;
+    let Ok(names) = Vec::with_capacity(alloc, MOST_SESSIONS) else {
+        return Err(RunFault::NoMemory);
+    };
+    let mut sessions = Sessions::new(alloc, book);
+    run_lines(alloc, &mut sessions, &mut lines, reader, writer)?;
+    Ok(sessions.into_parts(names))
+}
+
+#[cfg(test)]
+mod tests;

@@ -1,0 +1,147 @@
+use super::*;
+use crate::fakes::{StepReader, StepWriter, Wire};
+use std::test::Fail;
+
+const MESSAGE: &str = "a open t 2 100 x:w=0\n\
+    a claim t 0\n\
+    b claim t 1\n\
+    b do t 1 lw x 1\n\
+    a ask t\n\
+    a do t 0 sw x 1\n\
+    a ask t\n";
+
+const REPLIES: &str = "a ok\na ok\nb ok\nb ok\na inconsistent\na ok\na consistent 2 0 1\n";
+
+/// How a script ran: its fault, what was written, and whether a reply came late.
+#[derive(Drop)]
+struct Ran {
+    fault: Option<RunFault>,
+    written: Vec<u8>,
+    is_late: bool,
+}
+
+/// Runs a script with reads and writes of at most `step` bytes, up to these limits.
+fn run_of(alloc: Global, script: &[u8], step: usize, read_limit: usize, write_limit: usize) -> Ran {
+    let wire = Wire::new();
+    let mut reader = Port::new(StepReader {
+        script,
+        step,
+        limit: read_limit,
+        wire: &wire,
+    });
+    let mut writer = Port::new(StepWriter {
+        taken: Vec::new(alloc),
+        step,
+        limit: write_limit,
+        wire: &wire,
+    });
+    let ended = run_script(alloc, Book::new(alloc), &mut reader, &mut writer);
+    Ran {
+        fault: ended.err(),
+        written: writer.into_inner().taken,
+        is_late: wire.is_late.get(),
+    }
+}
+
+/// The first lines of a text, as many as the script has line feeds.
+fn replies_to<'a>(script: &[u8], replies: &'a [u8]) -> &'a [u8] {
+    let mut left = script.iter().filter(|byte| **byte == b'\n').count();
+    for (at, byte) in replies.iter().enumerate() {
+        if left == 0 {
+            return &replies[..at];
+        }
+        if *byte == b'\n' {
+            left -= 1;
+        }
+    }
+    replies
+}
+
+#[test]
+fn message_passing(rt: HostRuntime) {
+    for step in [1, 3, 4096] {
+        let ran = run_of(rt.alloc(), MESSAGE.as_bytes(), step, usize::MAX, usize::MAX);
+        assert_eq!(rt; ran.fault, None);
+        assert_eq!(rt; ran.written.as_slice(), REPLIES.as_bytes(), "at {step}");
+        assert!(rt; !ran.is_late, "a reply came late at {step}");
+    }
+}
+
+#[test]
+fn a_read_fault_ends_the_run(rt: HostRuntime) {
+    let script = MESSAGE.as_bytes();
+    for step in [1, 3, 4096] {
+        for limit in 0..=script.len() {
+            let ran = run_of(rt.alloc(), script, step, limit, usize::MAX);
+            let wanted = replies_to(&script[..limit], REPLIES.as_bytes());
+            assert_eq!(rt; ran.fault, Some(RunFault::ReadFailed));
+            assert_eq!(rt; ran.written.as_slice(), wanted, "at {step} and {limit}");
+        }
+    }
+}
+
+#[test]
+fn a_write_fault_ends_the_run(rt: HostRuntime) {
+    let replies = REPLIES.as_bytes();
+    for step in [1, 3, 4096] {
+        for limit in 0..replies.len() {
+            let ran = run_of(rt.alloc(), MESSAGE.as_bytes(), step, usize::MAX, limit);
+            assert_eq!(rt; ran.fault, Some(RunFault::WriteFailed));
+            assert_eq!(rt;
+                ran.written.as_slice(),
+                &replies[..limit],
+                "at {step} and {limit}"
+            );
+        }
+    }
+}
+
+#[test]
+fn some_lines_are_bad_and_some_ask_for_nothing(rt: HostRuntime) -> Result<(), Fail> {
+    let mut script = Vec::new(rt.alloc());
+    script.extend_from_slice(b"# a comment\n\n \t\r\n\r\nA list\na fly t\n# \xff\n")?;
+    for _ in 0..1025u32 {
+        script.push(b'#')?;
+    }
+    script.extend_from_slice(b"\nb ask")?;
+    let ran = run_of(rt.alloc(), &script, 100, usize::MAX, usize::MAX);
+    let wanted =
+        b"? refused 1 bad-line\na refused 1 bad-line\n? refused 1 bad-line\nb refused 1 bad-line\n";
+    assert_eq!(rt; ran.fault, None);
+    assert_eq!(rt; ran.written.as_slice(), wanted.as_slice());
+    Ok(())
+}
+
+#[test]
+fn all_sessions_enter_and_no_more(rt: HostRuntime) -> Result<(), Fail> {
+    let mut script = String::new(rt.alloc());
+    let mut wanted = String::new(rt.alloc());
+    for i in 0..MOST_SESSIONS {
+        script.push_str(&format!(in rt.alloc(); "n{i} ask t\n")?)?;
+        wanted.push_str(&format!(in rt.alloc(); "n{i} refused 2 no-such-trace\n")?)?;
+    }
+    script.push_str("late ask t\nn0 ask t\n")?;
+    wanted.push_str("late refused 19 too-many-sessions\nn0 refused 2 no-such-trace\n")?;
+    let ran = run_of(rt.alloc(), script.as_bytes(), 4096, usize::MAX, usize::MAX);
+    assert_eq!(rt; ran.fault, None);
+    assert_eq!(rt; ran.written.as_slice(), wanted.as_bytes());
+    Ok(())
+}
+
+#[test]
+fn names_come_back_in_the_order_of_their_entry(rt: HostRuntime) -> Result<(), Fail> {
+    let wire = Wire::new();
+    let script: &[u8] = b"b ask t\na ask t\nb ask t\n";
+    let mut reader = Port::new(script);
+    let mut writer = Port::new(StepWriter {
+        taken: Vec::new(rt.alloc()),
+        step: 1,
+        limit: usize::MAX,
+        wire: &wire,
+    });
+    let (_, names) = run_script(rt.alloc(), Book::new(rt.alloc()), &mut reader, &mut writer)?;
+    assert_eq!(rt; names.len(), 2);
+    assert_eq!(rt; names[0].bytes(), b"b".as_slice());
+    assert_eq!(rt; names[1].bytes(), b"a".as_slice());
+    Ok(())
+}

@@ -1,0 +1,130 @@
+//! The state of a script run: the names of the sessions, and the book.
+ghost use Rattle.std.specs.Prelude.{◌≡◌, ◌≢◌, ◌⊎◌, ◌≤◌, [], length, vec_capacity, true, false, IfOk, IfErr, OnErr, option_copied};
+ghost use Rattle.scm_sequences.specs.declared.refusal.Refusal.TheVariants.{NoMemory, TooManySessions};
+ghost use Rattle.scm_sequences.specs.declared.limits.TheConstants.{MOST_SESSIONS};
+ghost use Rattle.scm_book.specs.Calls.{call_data, reply_data};
+ghost use Rattle.scm_sessions.specs.Lines.{line_given, text};
+ghost use Rattle.scm_sessions.specs.Asking.{nothing, asked_by, name_in};
+ghost use Rattle.scm_sessions.specs.Replies.{reply_line, answer_text};
+ghost use Rattle.scm_sessions.specs.Script.{script_state, session_of, with_name, is_turned_away, AnswersCall, AnswersLine};
+
+use crate::calls::{asks_nothing, read_line};
+use crate::replies::Answer;
+use crate::words::line_name;
+use indexmap::IndexSet;
+use scm_book::{Book, Call, Reply};
+use scm_cells::Name;
+use scm_sequences::{MOST_SESSIONS, Refusal};
+use std::alloc::Global;
+use std::marker::Model;
+
+/// The names of the sessions in the order of their entry, and the book. A name's place is the number of its session.
+#[derive(Drop)]
+pub(crate) struct Sessions {
+    names: IndexSet<Name>,
+    book: Book,
+}
+
+impl Model for Sessions {
+    ghost use Rattle.std.specs.Prelude.{◌≤◌, length};
+    ghost use Rattle.scm_sequences.specs.declared.limits.TheConstants.{MOST_SESSIONS};
+    ghost use Rattle.scm_sessions.specs.Script.{ScriptState, script_state};
+
+    ghost Value = { ScriptState };
+
+    ghost view = { λ s. script_state s.names.keys s.book.machine };
+
+    ghost invariant = { λ s. length s.names.keys ≤ MOST_SESSIONS };
+}
+
+impl Sessions {
+    /// No session has entered.
+    pub(crate) fn new(alloc: Global, book: Book) -> Sessions
+        ensures { result ≡ script_state [] book.machine }
+    {
+        Sessions {
+            names: IndexSet::new(alloc),
+            book,
+        }
+    }
+
+    /// Whether a session of this name can't enter: the name is new, and all sessions have entered.
+    fn turns_away(&self, name: &Name) -> bool
+        ensures { result ≡ is_turned_away self.now.names name.now }
+    {
+        self.names.len() >= MOST_SESSIONS && !self.names.contains(name)
+    }
+
+    /// The number of the session of this name, which enters where it is new. Refused `TooManySessions` where all
+    /// sessions have entered, or `NoMemory`; unchanged after a refusal.
+    fn enter(&mut self, name: Name) -> Result<u16, Refusal>
+        ensures ok { IfOk result (λ session. (session ≡ session_of self.old.names name)
+            × (is_turned_away self.old.names name ≡ false) × (self.new.names ≡ with_name self.old.names name)) }
+        ensures err { IfErr result (λ refusal.
+            ((refusal ≡ TooManySessions) × (is_turned_away self.old.names name ≡ true)) ⊎ (refusal ≡ NoMemory)) }
+        ensures unchanged { OnErr result (self.new.names ≡ self.old.names) }
+        ensures machine { self.new.machine ≡ self.old.machine }
+    {
+        if self.turns_away(&name) {
+            return Err(Refusal::TooManySessions);
+        }
+        let Ok((place, _)) = self.names.insert_full(name) else {
+            return Err(Refusal::NoMemory);
+        };
+        Ok(place as u16)
+    }
+
+    /// Makes a call of the session of this name.
+    fn call(&mut self, name: Name, call: Call) -> Reply
+        ensures { AnswersCall self.old name (call_data call) (reply_data result) self.new }
+    {
+        match self.enter(name) {
+            Ok(session) => self.book.call(session, call),
+            Err(refusal) => Reply::Refused(refusal),
+        }
+    }
+
+    /// The reply to a line that asks for something.
+    fn reply(&mut self, alloc: Global, line: &[u8]) -> Reply
+        requires { asked_by (text line.now) ≢ nothing }
+        ensures { AnswersLine self.old (asked_by (text line.now))
+            (reply_line (name_in (asked_by (text line.now))) (reply_data result)) self.new }
+    {
+        match read_line(alloc, line) {
+            Ok((name, call)) => self.call(name, call),
+            Err(refusal) => Reply::Refused(refusal),
+        }
+    }
+
+    /// The answer to a line, where it has one; `None` stands for a line that is too long.
+    pub(crate) fn answer(&mut self, alloc: Global, line: Option<&[u8]>) -> Option<Answer>
+        ensures { AnswersLine self.old (asked_by (line_given (option_copied line.entry))) (answer_text result) self.new }
+    {
+        let Some(line) = line else {
+            return Some(Answer {
+                name: None,
+                reply: Reply::Refused(Refusal::BadLine),
+            });
+        };
+        if asks_nothing(line) {
+            return None;
+        }
+        let reply = self.reply(alloc, line);
+        Some(Answer {
+            name: line_name(line),
+            reply,
+        })
+    }
+
+    /// The book, and the names in the order of their entry, which go into `room`.
+    pub(crate) fn into_parts(self, mut room: Vec<Name>) -> (Book, Vec<Name>)
+        requires empty { room.items ≡ [] }
+        requires fits { MOST_SESSIONS ≤ vec_capacity room }
+        ensures book { result.0.machine ≡ self.machine }
+        ensures names { result.1.items ≡ self.names }
+    {
+        let Sessions { names, book } = self;
+        room.extend_from_slice(names.as_slice()).unwrap();
+        (book, room)
+    }
+}
