@@ -1,9 +1,8 @@
 //! The run of a script, from bytes to bytes.
-ghost use Rattle.std.specs.Prelude.{◌≡◌, ◌≢◌, ◌↔◌, ◌≤◌, ℕ, List, [], true, false, is_err, IfOk, IfErr, OnOk, IsErrOf, option_copied, vec_capacity};
-ghost use Rattle.scm_sequences.specs.declared.limits.TheConstants.{MOST_SESSIONS};
+ghost use Rattle.std.specs.Prelude.{◌≡◌, ◌≢◌, ◌↔◌, ℕ, List, [], true, false, is_err, IfOk, IfErr, OnOk, IsErrOf, option_copied};
 ghost use Rattle.scm_sessions.specs.Lines.{line_given};
 ghost use Rattle.scm_sessions.specs.Asking.{asked_by};
-ghost use Rattle.scm_sessions.specs.Ports.{inner_of, has_failed, reads_of, Writes};
+ghost use Rattle.scm_sessions.specs.Ports.{inner_of, has_failed, Writes};
 ghost use Rattle.scm_sessions.specs.Reading.{unread_of};
 ghost use Rattle.scm_sessions.specs.Script.{script_state, AnswersLine, RunsWhole, RunsWholeLines, RunsPart};
 
@@ -74,9 +73,9 @@ fn run_lines<R: Read, W: Write>(
 /// Runs a script: answers each of its lines over this book, and gives back the book and the names of the sessions, a
 /// name's place being the number of its session.
 ///
-/// Each reply is written and flushed before more of the script is read than its line. The run ends early where the
-/// reader or the writer fails; it answers `NoMemory` before the first read alone. A line for which memory is refused
-/// later is answered so, and the run goes on.
+/// Each reply is written and flushed before more bytes are asked for, as far as whole lines were read. The run ends
+/// early where the reader or the writer fails. It fails with `NoMemory` before the first read alone; a line for which
+/// memory is refused later is answered so, and the run goes on.
 pub fn run_script<R: Read, W: Write>(
     alloc: Global,
     book: Book,
@@ -97,8 +96,7 @@ pub fn run_script<R: Read, W: Write>(
     ensures reader_failed { IsErrOf result RunFault.ReadFailed ↔ (has_failed reader.new ≡ true) }
     ensures writer_failed { IsErrOf result RunFault.WriteFailed ↔ (has_failed writer.new ≡ true) }
     ensures no_memory { IsErrOf result RunFault.NoMemory →
-        (inner_of reader.new ≡ inner_of reader.old) × (reads_of reader.new ≡ reads_of reader.old)
-        × (inner_of writer.new ≡ inner_of writer.old) }
+        (reader.new ≡ reader.old) × (writer.new ≡ writer.old) }
 {
     let mut lines = LineReader::new(alloc)?;
     let Ok(names) = Vec::with_capacity(alloc, MOST_SESSIONS) else {
