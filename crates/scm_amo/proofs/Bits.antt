@@ -1,5 +1,5 @@
 -- The operations bit by bit are those of the machine.
-use Rattle.std.proofs.Common.{◌≡◌, ℕ, zero, suc, ◌+◌, ◌*◌, ◌/◌, ◌%◌, ◌^◌, ◌<◌, min, max, bit_and, sym, ◌∙◌, ap, arith, refl, lit<}
+use Rattle.std.proofs.Common.{◌≡◌, ℕ, zero, suc, ◌+◌, ◌*◌, ◌/◌, ◌%◌, ◌^◌, ◌<◌, bit_and, sym, ◌∙◌, ap, arith, lit<}
 use Rattle.std.specs.Prelude.{bit_or, bit_xor}
 use Rattle.std.specs.Int.{bit_at}
 use Rattle.std.proofs.Math.Arith.{mod-mul}
@@ -10,7 +10,7 @@ use Rattle.scm_cells.specs.declared.width.Width.{Width}
 use Rattle.scm_cells.specs.Widths.{bits_of, values_of}
 use Rattle.scm_amo.specs.declared.kind.AmoKind.{AmoKind}
 use Rattle.scm_amo.specs.declared.kind.AmoKind.TheVariants.{And, Or, Xor}
-use Rattle.scm_amo.specs.Results.{number_of_bits, bitwise, amo_result}
+use Rattle.scm_amo.specs.Results.{number_of_bits, amo_result}
 
 -- the lowest k bits of n are a number again
 pub number_of_bits-bit_at : (k n : ℕ) → number_of_bits k (λ i. bit_at n i) ≡ n % 2 ^ k

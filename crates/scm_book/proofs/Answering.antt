@@ -1,133 +1,84 @@
 -- What each way out of a call is in the machine's steps.
-use Rattle.std.proofs.Common.{◌≡◌, ◌⊎◌, ℕ, ◌<◌, ◌≤◌, List, Bool, true, false, Option, None, Some, Result, Ok, Err, IsSomeAnd, IsOkAnd, slice_set, is_some, nat_le, length, refl, sym, ap, ap₂, ◌∙◌, subst, inl, inr}
+use Rattle.std.proofs.Common.{◌≡◌, ◌⊎◌, ℕ, ◌<◌, ◌≤◌, List, true, false, Option, None, Some, Result, Ok, Err, IsSomeAnd, IsOkAnd, is_some, nat_le, length, refl, sym, ap, ap₂, ◌∙◌, subst, inl, inr}
 use Rattle.std.proofs.lemmas.Bool.{le-leb, lt-leb}
 use Rattle.std.specs.Option.{option_or, option_map_or}
-use Rattle.scm_sequences.specs.declared.op.Op.{Op}
 use Rattle.scm_sequences.specs.declared.refusal.Refusal.{Refusal}
 use Rattle.scm_sequences.specs.declared.refusal.Refusal.TheVariants.{NoMemory, NoSuchTrace, NameTaken, TooManyTraces}
 use Rattle.scm_sequences.specs.declared.limits.TheConstants.{MOST_TRACES}
 use Rattle.scm_sequences.specs.Refusals.{Refuses}
-use Rattle.scm_sequences.specs.Sequences.{pushed}
-use Rattle.scm_lowering.specs.declared.access.Access.{Access}
-use Rattle.scm_lowering.specs.Lowering.{lowered}
 use Rattle.scm_cells.specs.CellLists.{Declared}
 use Rattle.scm_book.specs.declared.call.Decl.{Decl}
-use Rattle.scm_book.specs.Calls.{CallData, opens, claims, reports, shows, asks, ReplyData, done, ops, refused}
-use Rattle.scm_book.specs.Machine.{Machine, TraceState, new_trace, trace_in, trace_named, with_trace}
-use Rattle.scm_book.specs.Refusals.{cause, declared_cells, trace_cause, place_cause, open_refusal, claim_cause, claim_refusal, report_cause, report_refusal, no_process, show_refusal, ask_refusal, in_trace}
-use Rattle.scm_book.specs.declared.reply.Shown.{Shown}
-use Rattle.scm_book.specs.Showing.{shown_operations}
-use Rattle.scm_book.specs.Steps.{Unless, IsStep, IsStepOrNoMemory, Opens, Claims, Reports, Shows, Asks}
-use Rattle.scm_book.specs.Verdicts.{Fits}
+use Rattle.scm_book.specs.Calls.{opens, ReplyData, done, refused}
+use Rattle.scm_book.specs.Machine.{Machine, TraceState, new_trace, trace_named, with_trace}
+use Rattle.scm_book.specs.Refusals.{cause, declared_cells, trace_cause, place_cause, open_refusal, in_trace}
+use Rattle.scm_book.specs.Steps.{Unless, IsStepOrNoMemory, InTrace, Opens}
 
--- where there is a cause, the call is refused
-refused_for : (first : Option Refusal) (refusal : Refusal) (unchanged effect : Type 0) → first ≡ Some refusal → unchanged → Unless first (refused refusal) unchanged effect
-refused_for first refusal unchanged effect is same = subst (λ o. Unless o (refused refusal) unchanged effect) (sym is) (refl, same)
+-- ---- a call, its first cause of refusal and its effect
 
--- where there is none, it has its effect
-effect_for : (first : Option Refusal) (reply : ReplyData) (unchanged effect : Type 0) → first ≡ None → effect → Unless first reply unchanged effect
-effect_for first reply unchanged effect is h = subst (λ o. Unless o reply unchanged effect) (sym is) h
+module _ (first : Option Refusal) (unchanged : Type 0) where
+  -- an answer of a call with this cause, if there is one, and this effect
+  abbrev pub Answers : ReplyData → Type 0 → Type 0
+  Answers reply effect = Unless first reply unchanged effect ⊎ ((reply ≡ refused NoMemory) × unchanged)
 
--- the first cause of a call about a trace that is there
-cause_there : (machine : Machine) (name : List ℕ) (causes : TraceState → Option Refusal) (state : TraceState) → trace_named machine name ≡ Some state → in_trace machine name causes ≡ causes state
-cause_there machine name causes state found = ap (λ o. option_map_or causes o (Some NoSuchTrace)) found
+  -- where there is a cause, the call is refused
+  pub answers-refused : (refusal : Refusal) (effect : Type 0) → Refuses first refusal → unchanged → Answers (refused refusal) effect
+  answers-refused refusal effect (inl is) same = inl (subst (λ o. Unless o (refused refusal) unchanged effect) (sym is) (refl, same))
+  answers-refused refusal effect (inr is) same = inr (ap refused is, same)
 
-cause_absent : (machine : Machine) (name : List ℕ) (causes : TraceState → Option Refusal) → trace_named machine name ≡ None → in_trace machine name causes ≡ Some NoSuchTrace
-cause_absent machine name causes none = ap (λ o. option_map_or causes o (Some NoSuchTrace)) none
+  -- where there is none, it has its effect
+  pub answers-done : (reply : ReplyData) (effect : Type 0) → first ≡ None → effect → Answers reply effect
+  answers-done reply effect is h = inl (subst (λ o. Unless o reply unchanged effect) (sym is) h)
 
-there : (machine : Machine) (name : List ℕ) (state : TraceState) (P : TraceState → Type 0) → trace_named machine name ≡ Some state → P state → IsSomeAnd (trace_named machine name) P
-there machine name state P found h = subst (λ o. IsSomeAnd o P) (sym found) h
+-- ---- a call about a trace, with causes and an effect that look at the trace
 
--- ---- claim
+module _ (old new : Machine) (name : List ℕ) (causes : TraceState → Option Refusal) where
+  -- the trace is not there
+  pub absent : (effect : Type 0) → trace_named old name ≡ None → new ≡ old → Answers (in_trace old name causes) (new ≡ old) (refused NoSuchTrace) effect
+  absent effect none same = answers-refused (in_trace old name causes) (new ≡ old) NoSuchTrace effect (inl (ap (λ o. option_map_or causes o (Some NoSuchTrace)) none)) same
 
-pub claim-no_trace : (old new : Machine) (session : ℕ) (name : List ℕ) (p : ℕ) → trace_named old name ≡ None → new ≡ old → IsStepOrNoMemory old session (claims name p) (refused NoSuchTrace) new
-claim-no_trace old new session name p none same =
-    inl (refused_for (claim_refusal old name p) NoSuchTrace (new ≡ old) (Claims old session name p (refused NoSuchTrace) new) (cause_absent old name (λ state. claim_cause state p) none) same)
+  module _ (state : TraceState) (found : trace_named old name ≡ Some state) where
+    -- the trace is there, and refuses the call
+    pub there_refused : (refusal : Refusal) (effect : Type 0) → Refuses (causes state) refusal → new ≡ old → Answers (in_trace old name causes) (new ≡ old) (refused refusal) effect
+    there_refused refusal effect refuses same =
+        answers-refused (in_trace old name causes) (new ≡ old) refusal effect (subst (λ o. Refuses (option_map_or causes o (Some NoSuchTrace)) refusal) (sym found) refuses) same
 
-pub claim-refused : (old new : Machine) (session : ℕ) (name : List ℕ) (p : ℕ) (state : TraceState) (refusal : Refusal) → trace_named old name ≡ Some state → claim_cause state p ≡ Some refusal → new ≡ old
-    → IsStepOrNoMemory old session (claims name p) (refused refusal) new
-claim-refused old new session name p state refusal found is same =
-    inl (refused_for (claim_refusal old name p) refusal (new ≡ old) (Claims old session name p (refused refusal) new) (cause_there old name (λ s. claim_cause s p) state found ∙ is) same)
+    -- the trace is there, and the call is not refused
+    pub there_made : (reply : ReplyData) (effect : Type 0) → causes state ≡ None → effect → Answers (in_trace old name causes) (new ≡ old) reply effect
+    there_made reply effect none h = answers-done (in_trace old name causes) (new ≡ old) reply effect (ap (λ o. option_map_or causes o (Some NoSuchTrace)) found ∙ none) h
 
-pub claim-done : (old new : Machine) (session : ℕ) (name : List ℕ) (p : ℕ) (state claimed : TraceState) → trace_named old name ≡ Some state → claim_cause state p ≡ None
-    → claimed ≡ record state { claimants = slice_set state.claimants p (Some session) } → new ≡ with_trace old name claimed → IsStepOrNoMemory old session (claims name p) done new
-claim-done old new session name p state claimed found none set is =
-    inl (effect_for (claim_refusal old name p) done (new ≡ old) (Claims old session name p done new) (cause_there old name (λ s. claim_cause s p) state found ∙ none)
-    (refl, there old name state (λ s. new ≡ with_trace old name (record s { claimants = slice_set s.claimants p (Some session) })) found (is ∙ ap (with_trace old name) set)))
+    -- and its effect looks at the trace
+    pub there_done : (reply : ReplyData) (P : TraceState → Type 0) → causes state ≡ None → P state → Answers (in_trace old name causes) (new ≡ old) reply (InTrace old name P)
+    there_done reply P none h = there_made reply (InTrace old name P) none (subst (λ o. IsSomeAnd o P) (sym found) h)
 
--- ---- report
-
-pub report-no_trace : (old new : Machine) (session : ℕ) (name : List ℕ) (p : ℕ) (access : Access) → trace_named old name ≡ None → new ≡ old → IsStepOrNoMemory old session (reports name p access) (refused NoSuchTrace) new
-report-no_trace old new session name p access none same =
-    inl (refused_for (report_refusal old session name p access) NoSuchTrace (new ≡ old) (Reports old session name p access (refused NoSuchTrace) new) (cause_absent old name (λ state. report_cause state session p access) none) same)
-
-pub report-refused : (old new : Machine) (session : ℕ) (name : List ℕ) (p : ℕ) (access : Access) (state : TraceState) (refusal : Refusal) → trace_named old name ≡ Some state → Refuses (report_cause state session p access) refusal → new ≡ old
-    → IsStepOrNoMemory old session (reports name p access) (refused refusal) new
-report-refused old new session name p access state refusal found (inl is) same =
-    inl (refused_for (report_refusal old session name p access) refusal (new ≡ old) (Reports old session name p access (refused refusal) new) (cause_there old name (λ s. report_cause s session p access) state found ∙ is) same)
-report-refused old new session name p access state refusal found (inr is) same = inr (ap refused is, same)
-
-pub report-done : (old new : Machine) (session : ℕ) (name : List ℕ) (p : ℕ) (access : Access) (state reported : TraceState) → trace_named old name ≡ Some state → report_cause state session p access ≡ None
-    → IsOkAnd (lowered state.cells access) (λ op. reported ≡ record state { sequences = pushed state.sequences p op }) → new ≡ with_trace old name reported → IsStepOrNoMemory old session (reports name p access) done new
-report-done old new session name p access state reported found none adds is =
-    inl (effect_for (report_refusal old session name p access) done (new ≡ old) (Reports old session name p access done new) (cause_there old name (λ s. report_cause s session p access) state found ∙ none)
-    (refl, there old name state (λ s. IsOkAnd (lowered s.cells access) (λ op. new ≡ with_trace old name (record s { sequences = pushed s.sequences p op }))) found (go (lowered state.cells access) adds))) where
-      go : (r : Result Op Refusal) → IsOkAnd r (λ op. reported ≡ record state { sequences = pushed state.sequences p op }) → IsOkAnd r (λ op. new ≡ with_trace old name (record state { sequences = pushed state.sequences p op }))
-      go (Ok op) adds = is ∙ ap (with_trace old name) adds
-      go (Err refusal) adds = adds
-
--- ---- show
-
-pub show-no_trace : (old new : Machine) (session : ℕ) (name : List ℕ) (p : ℕ) → trace_named old name ≡ None → new ≡ old → IsStepOrNoMemory old session (shows name p) (refused NoSuchTrace) new
-show-no_trace old new session name p none same =
-    inl (refused_for (show_refusal old name p) NoSuchTrace (new ≡ old) (Shows old name p (refused NoSuchTrace) new) (cause_absent old name (λ state. no_process state p) none) same)
-
-pub show-refused : (old new : Machine) (session : ℕ) (name : List ℕ) (p : ℕ) (state : TraceState) (refusal : Refusal) → trace_named old name ≡ Some state → Refuses (no_process state p) refusal → new ≡ old
-    → IsStepOrNoMemory old session (shows name p) (refused refusal) new
-show-refused old new session name p state refusal found (inl is) same =
-    inl (refused_for (show_refusal old name p) refusal (new ≡ old) (Shows old name p (refused refusal) new) (cause_there old name (λ s. no_process s p) state found ∙ is) same)
-show-refused old new session name p state refusal found (inr is) same = inr (ap refused is, same)
-
-pub show-shown : (old new : Machine) (session : ℕ) (name : List ℕ) (p : ℕ) (state : TraceState) (shown : List Shown) → trace_named old name ≡ Some state → no_process state p ≡ None → shown ≡ shown_operations state p → new ≡ old
-    → IsStepOrNoMemory old session (shows name p) (ops shown) new
-show-shown old new session name p state shown found none is same =
-    inl (effect_for (show_refusal old name p) (ops shown) (new ≡ old) (Shows old name p (ops shown) new) (cause_there old name (λ s. no_process s p) state found ∙ none)
-    (same, there old name state (λ s. ops shown ≡ ops (shown_operations s p)) found (ap ops is)))
-
--- ---- ask
-
-pub ask-no_trace : (old new : Machine) (session : ℕ) (name : List ℕ) → trace_named old name ≡ None → new ≡ old → IsStepOrNoMemory old session (asks name) (refused NoSuchTrace) new
-ask-no_trace old new session name none same =
-    inl (refused_for (ask_refusal old name) NoSuchTrace (new ≡ old) (Asks old name (refused NoSuchTrace) new) (cause_absent old name (λ state. None) none) same)
-
-pub ask-answered : (old new : Machine) (session : ℕ) (name : List ℕ) (state : TraceState) (reply : ReplyData) → trace_named old name ≡ Some state → Fits (trace_in state) state.budget reply → new ≡ old
-    → IsStepOrNoMemory old session (asks name) reply new
-ask-answered old new session name state reply found fits same =
-    inl (effect_for (ask_refusal old name) reply (new ≡ old) (Asks old name reply new) (cause_there old name (λ s. None) state found)
-    (same, there old name state (λ s. Fits (trace_in s) s.budget reply) found fits))
+-- what is written under the name is what the trace was said to be
+pub written : {T E : Type 0} (old new : Machine) (name : List ℕ) (state : TraceState) (r : Result T E) (become : T → TraceState) → new ≡ with_trace old name state → IsOkAnd r (λ x. state ≡ become x)
+    → IsOkAnd r (λ x. new ≡ with_trace old name (become x))
+written old new name state (Ok x) become is as_said = is ∙ ap (with_trace old name) as_said
+written old new name state (Err e) become is as_said = as_said
 
 -- ---- open
 
-pub open-bad_trace : (old new : Machine) (session : ℕ) (name : List ℕ) (procs budget : ℕ) (decls : List Decl) (refusal : Refusal) → Refuses (trace_cause procs budget decls) refusal → new ≡ old
-    → IsStepOrNoMemory old session (opens name procs budget decls) (refused refusal) new
-open-bad_trace old new session name procs budget decls refusal (inl is) same =
-    inl (refused_for (open_refusal old name procs budget decls) refusal (new ≡ old) (Opens old session name procs budget decls (refused refusal) new) (ap (λ o. option_or o (place_cause old name)) is) same)
-open-bad_trace old new session name procs budget decls refusal (inr is) same = inr (ap refused is, same)
+module _ (old new : Machine) (session : ℕ) (name : List ℕ) (procs budget : ℕ) (decls : List Decl) where
+  pub open-bad_trace : (refusal : Refusal) → Refuses (trace_cause procs budget decls) refusal → new ≡ old → IsStepOrNoMemory old session (opens name procs budget decls) (refused refusal) new
+  open-bad_trace refusal refuses same =
+      answers-refused (open_refusal old name procs budget decls) (new ≡ old) refusal (Opens old session name procs budget decls (refused refusal) new) (first refuses) same
+    where
+      first : Refuses (trace_cause procs budget decls) refusal → Refuses (open_refusal old name procs budget decls) refusal
+      first (inl is) = inl (ap (λ o. option_or o (place_cause old name)) is)
+      first (inr is) = inr is
 
-pub open-no_place : (old new : Machine) (session : ℕ) (name : List ℕ) (procs budget : ℕ) (decls : List Decl) (refusal : Refusal) → trace_cause procs budget decls ≡ None → place_cause old name ≡ Some refusal → new ≡ old
-    → IsStepOrNoMemory old session (opens name procs budget decls) (refused refusal) new
-open-no_place old new session name procs budget decls refusal good is same =
-    inl (refused_for (open_refusal old name procs budget decls) refusal (new ≡ old) (Opens old session name procs budget decls (refused refusal) new) (ap (λ o. option_or o (place_cause old name)) good ∙ is) same)
+  pub open-no_place : (refusal : Refusal) → trace_cause procs budget decls ≡ None → place_cause old name ≡ Some refusal → new ≡ old → IsStepOrNoMemory old session (opens name procs budget decls) (refused refusal) new
+  open-no_place refusal good is same =
+      answers-refused (open_refusal old name procs budget decls) (new ≡ old) refusal (Opens old session name procs budget decls (refused refusal) new) (inl (ap (λ o. option_or o (place_cause old name)) good ∙ is)) same
 
-pub open-done : (old new : Machine) (session : ℕ) (name : List ℕ) (procs budget : ℕ) (decls : List Decl) (state : TraceState) → trace_cause procs budget decls ≡ None → place_cause old name ≡ None
-    → IsSomeAnd (declared_cells decls) (λ cells. state ≡ new_trace session procs budget cells) → new ≡ with_trace old name state
-    → IsStepOrNoMemory old session (opens name procs budget decls) done new
-open-done old new session name procs budget decls state good free made is =
-    inl (effect_for (open_refusal old name procs budget decls) done (new ≡ old) (Opens old session name procs budget decls done new) (ap (λ o. option_or o (place_cause old name)) good ∙ free)
-    (refl, go (declared_cells decls) made)) where
-      go : (o : Option (List Declared)) → IsSomeAnd o (λ cells. state ≡ new_trace session procs budget cells) → IsSomeAnd o (λ cells. new ≡ with_trace old name (new_trace session procs budget cells))
-      go None made = made
-      go (Some cells) made = is ∙ ap (with_trace old name) made
+  pub open-done : (state : TraceState) → trace_cause procs budget decls ≡ None → place_cause old name ≡ None → IsSomeAnd (declared_cells decls) (λ cells. state ≡ new_trace session procs budget cells)
+      → new ≡ with_trace old name state → IsStepOrNoMemory old session (opens name procs budget decls) done new
+  open-done state good free made is =
+      answers-done (open_refusal old name procs budget decls) (new ≡ old) done (Opens old session name procs budget decls done new) (ap (λ o. option_or o (place_cause old name)) good ∙ free)
+      (refl, go (declared_cells decls) made) where
+        go : (o : Option (List Declared)) → IsSomeAnd o (λ cells. state ≡ new_trace session procs budget cells) → IsSomeAnd o (λ cells. new ≡ with_trace old name (new_trace session procs budget cells))
+        go None made = made
+        go (Some cells) made = is ∙ ap (with_trace old name) made
 
 -- ---- the place of a new trace
 

@@ -1,15 +1,15 @@
 -- Cells that are added one by one are the cells that are declared, or there is a cause to refuse them.
-use Rattle.std.proofs.Common.{◌≡◌, ◌⊎◌, ℕ, suc, ◌+◌, ◌<◌, ◌≤◌, Bool, true, false, cond, if◌then◌else◌, not, ◌||◌, ◌&&◌, List, [], ◌∷◌, ◌++◌, length, drop, get_or, slice_index_or, Option, None, Some, IsSomeAnd, nat_le, nat_lt, is_none, refl, sym, ap, ◌∙◌, subst, inl, inr, arith}
+use Rattle.std.proofs.Common.{◌≡◌, ℕ, suc, ◌+◌, ◌<◌, ◌≤◌, Bool, true, false, if◌then◌else◌, not, ◌||◌, ◌&&◌, List, [], ◌∷◌, ◌++◌, length, drop, slice_index_or, Option, None, Some, IsSomeAnd, nat_le, nat_lt, is_none, refl, sym, ap, ◌∙◌, inl, inr, arith}
 use Rattle.std.specs.List.{list_any}
 use Rattle.std.specs.Option.{option_map, option_and_then, option_map_or}
 use Rattle.std.proofs.Math.ListN.{drop_of_length-le}
 use Rattle.std.proofs.Math.Seq.{append_snoc, drop-cons}
-use Rattle.std.proofs.lemmas.Bool.{ltb-false, le-ltb, lt-ltb}
+use Rattle.std.proofs.lemmas.Bool.{le-ltb, lt-ltb}
 use Rattle.std.proofs.lemmas.Bool.Decides.{nat_tests}
 use Rattle.std.proofs.lemmas.List.{length-append, append-nil}
 use Rattle.std.proofs.lemmas.List.Folds.{list_any-append}
 use Rattle.scm_sequences.specs.declared.refusal.Refusal.{Refusal}
-use Rattle.scm_sequences.specs.declared.refusal.Refusal.TheVariants.{BadDeclaration, NoMemory}
+use Rattle.scm_sequences.specs.declared.refusal.Refusal.TheVariants.{BadDeclaration}
 use Rattle.scm_sequences.specs.declared.limits.TheConstants.{MOST_CELLS}
 use Rattle.scm_sequences.specs.Refusals.{Refuses}
 use Rattle.scm_cells.specs.declared.width.Width.{Width}

@@ -1,5 +1,11 @@
 pub mod Declaring
+pub mod Marking
 pub mod Entries
 pub mod Answering
 pub mod Questions
 pub mod Sounding
+mod Counting
+mod Entering
+mod Changing
+mod Calling
+mod Answered

@@ -1,47 +1,100 @@
--- Calls and replies as plain data: what a clause compares, with a list for each vector.
-use Rattle.std.specs.Prelude.{ℕ, List}
+-- Calls, replies and entries of the journal as plain data: what a clause compares, with a list for each vector.
+use Rattle.std.specs.Prelude.{ℕ, List, Option}
 use Rattle.scm_sequences.specs.declared.refusal.Refusal.{Refusal}
 use Rattle.scm_lowering.specs.declared.access.Access.{Access}
+use Rattle.scm_frontier.specs.Situated.{Situated}
 use Rattle.scm_book.specs.declared.call.Decl.{Decl}
 use Rattle.scm_book.specs.declared.call.Call.{Call}
-use Rattle.scm_book.specs.declared.call.Call.TheVariants.{OpenTrace, ClaimProcess, Report, ShowOps, Ask}
+use Rattle.scm_book.specs.declared.call.Call.TheVariants.{OpenTrace, ClaimProcess, ReleaseProcess, Report, SetMark, GoBack, RaiseBudget, Ask, Why, ShowOps, ListTraces, CloseTrace}
 use Rattle.scm_book.specs.declared.reply.Shown.{Shown}
 use Rattle.scm_book.specs.declared.reply.Reply.{Reply}
-use Rattle.scm_book.specs.declared.reply.Reply.TheVariants.{Done, Consistent, Inconsistent, Undecided, Ops, Refused}
+use Rattle.scm_book.specs.declared.reply.Reply.TheVariants.{Done, MarkSet, Consistent, Inconsistent, Undecided, Because, Ops, Traces, Refused}
+use Rattle.scm_book.specs.declared.entry.Entry.{Entry}
+use Rattle.scm_book.specs.declared.event.Event.{Event}
+use Rattle.scm_book.specs.declared.event.Event.TheVariants.{CallBy}
 
 pub data CallData : Type 0 where
   -- the trace's name, its number of processes, its budget and its cells
   opens : List ℕ → ℕ → ℕ → List Decl → CallData
   -- the trace's name and a process
   claims : List ℕ → ℕ → CallData
+  releases : List ℕ → ℕ → CallData
   -- the trace's name, a process and its access
   reports : List ℕ → ℕ → Access → CallData
+  -- the trace's name
+  sets_mark : List ℕ → CallData
+  -- the trace's name and a mark
+  goes_back : List ℕ → ℕ → CallData
+  -- the trace's name and a budget
+  raises : List ℕ → ℕ → CallData
+  -- the trace's name, and the mark that the question is about, if it is about one
+  asks : List ℕ → Option ℕ → CallData
+  asks_why : List ℕ → Option ℕ → CallData
   -- the trace's name and a process
   shows : List ℕ → ℕ → CallData
+  lists : CallData
   -- the trace's name
-  asks : List ℕ → CallData
+  closes : List ℕ → CallData
 
 pub data ReplyData : Type 0 where
   done : ReplyData
+  -- the number of a mark
+  marked : ℕ → ReplyData
   -- the places of a schedule, oldest first
   consistent : List ℕ → ReplyData
   inconsistent : ReplyData
   undecided : ReplyData
+  -- the situations of a refutation
+  because : List Situated → ReplyData
   -- operations, each with the name of its cell
   ops : List Shown → ReplyData
+  -- the names of traces
+  listed : List (List ℕ) → ReplyData
   refused : Refusal → ReplyData
+
+-- a session's call and its reply, with the number of earlier entries of this session
+pub record EntryData : Type 0 where
+  pub session : ℕ
+  pub number : ℕ
+  pub call : CallData
+  pub reply : ReplyData
+
+pub data EventData : Type 0 where
+  -- a session and its call
+  call_by : ℕ → CallData → EventData
 
 abbrev pub call_data : Call → CallData
 call_data (OpenTrace name procs budget cells) = opens name procs budget cells.items
 call_data (ClaimProcess name process) = claims name process
+call_data (ReleaseProcess name process) = releases name process
 call_data (Report name process access) = reports name process access
+call_data (SetMark name) = sets_mark name
+call_data (GoBack name mark) = goes_back name mark
+call_data (RaiseBudget name budget) = raises name budget
+call_data (Ask name mark) = asks name mark
+call_data (Why name mark) = asks_why name mark
 call_data (ShowOps name process) = shows name process
-call_data (Ask name) = asks name
+call_data ListTraces = lists
+call_data (CloseTrace name) = closes name
 
 abbrev pub reply_data : Reply → ReplyData
 reply_data Done = done
+reply_data (MarkSet mark) = marked mark
 reply_data (Consistent schedule) = consistent schedule.items
 reply_data Inconsistent = inconsistent
 reply_data Undecided = undecided
+reply_data (Because situations) = because situations.items
 reply_data (Ops operations) = ops operations.items
+reply_data (Traces names) = listed names.items
 reply_data (Refused refusal) = refused refusal
+
+abbrev pub entry_data : Entry → EntryData
+entry_data entry = record {
+  session = entry.session;
+  number = entry.number;
+  call = call_data entry.call;
+  reply = reply_data entry.reply;
+}
+
+abbrev pub event_data : Event → EventData
+event_data (CallBy session call) = call_by session (call_data call)

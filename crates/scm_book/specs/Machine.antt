@@ -1,5 +1,5 @@
 -- The machine: it holds the open traces in the order of their opening, and nothing else.
-use Rattle.std.specs.Prelude.{ℕ, List, [], ◌∷◌, Option, None, Some, if◌then◌else◌, replicate}
+use Rattle.std.specs.Prelude.{ℕ, List, [], ◌∷◌, map, Option, None, Some, if◌then◌else◌, replicate}
 use Rattle.scm_sequences.specs.declared.op.Op.{Op}
 use Rattle.scm_sequences.specs.Traces.{Trace, trace_of}
 use Rattle.scm_cells.specs.Names.{name_eq}
@@ -53,10 +53,19 @@ with_state (entry ∷ others) name state =
 abbrev pub with_trace : Machine → List ℕ → TraceState → Machine
 with_trace machine name state = record { traces = with_state machine.traces name state }
 
+-- without the trace of this name; the others keep their order
+abbrev pub without_state : List (List ℕ × TraceState) → List ℕ → List (List ℕ × TraceState)
+without_state [] name = []
+without_state (entry ∷ others) name =
+    if name_eq name entry.0 then others else entry ∷ without_state others name
+
+abbrev pub without_trace : Machine → List ℕ → Machine
+without_trace machine name = record { traces = without_state machine.traces name }
+
+-- the names of the traces, in the order of their opening
+abbrev pub trace_names : Machine → List (List ℕ)
+trace_names machine = map (λ entry. entry.0) machine.traces
+
 -- the trace that a question is about
 abbrev pub trace_in : TraceState → Trace
 trace_in state = trace_of (initials_of state.cells) state.sequences
-
--- what contracts see of a book
-pub record BookState : Type 0 where
-  pub machine : Machine

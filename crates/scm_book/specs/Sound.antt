@@ -1,13 +1,14 @@
 -- What holds of every open trace.
-use Rattle.std.specs.Prelude.{◌≡◌, ◌≤◌, length}
+use Rattle.std.specs.Prelude.{◌≡◌, ◌≤◌, [], ◌∷◌, ◌++◌, length, AllPairs}
 use Rattle.scm_sequences.specs.declared.limits.TheConstants.{MOST_SITUATIONS}
 use Rattle.scm_sequences.specs.Ops.{NamesCellsBelow}
-use Rattle.scm_sequences.specs.Sequences.{AreSequences}
+use Rattle.scm_sequences.specs.Lengths.{IsWithin}
+use Rattle.scm_sequences.specs.Sequences.{AreSequences, lengths_of}
 use Rattle.scm_cells.specs.CellLists.{AreCells}
 use Rattle.scm_book.specs.Machine.{TraceState}
 
--- its cells and sequences are such, the operations name its cells, each process has a place for its claimant, and the
--- budget is one
+-- its cells and sequences are such, the operations name its cells, each process has a place for its claimant, the budget
+-- is one, and each mark is within the later ones and within the present lengths
 pub record IsSoundTrace (state : TraceState) : Type 0 where
   pub cells : AreCells state.cells
   pub sequences : AreSequences state.sequences
@@ -15,3 +16,4 @@ pub record IsSoundTrace (state : TraceState) : Type 0 where
   pub claimants : length state.claimants ≡ length state.sequences
   pub least : 1 ≤ state.budget
   pub most : state.budget ≤ MOST_SITUATIONS
+  pub marks : AllPairs IsWithin (state.marks ++ lengths_of state.sequences ∷ [])

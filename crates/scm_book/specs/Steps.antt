@@ -1,17 +1,20 @@
 -- One step of the machine: from old, a session's call with this reply leads to new. Where a call has a cause of refusal,
 -- the reply is the first of them and nothing changes; else the call has its effect.
-use Rattle.std.specs.Prelude.{ℕ, ◌≡◌, ◌⊎◌, List, Option, None, Some, slice_set, IsSomeAnd, IsOkAnd}
+use Rattle.std.specs.Prelude.{ℕ, ◌≡◌, ◌≢◌, ◌⊎◌, List, [], ◌∷◌, ◌++◌, length, Option, None, Some, slice_set, IsSomeAnd, IsOkAnd}
 use Rattle.scm_sequences.specs.declared.refusal.Refusal.{Refusal}
 use Rattle.scm_sequences.specs.declared.refusal.Refusal.TheVariants.{NoMemory}
-use Rattle.scm_sequences.specs.Sequences.{pushed}
-use Rattle.scm_cells.specs.CellLists.{Declared}
+use Rattle.scm_sequences.specs.Sequences.{pushed, cut_lists, lengths_of}
+use Rattle.scm_sequences.specs.Traces.{Trace, cut_to}
+use Rattle.scm_budget.specs.Budgets.{raised}
+use Rattle.scm_marks.specs.MarkLists.{mark_at, marks_up_to}
 use Rattle.scm_lowering.specs.declared.access.Access.{Access}
 use Rattle.scm_lowering.specs.Lowering.{lowered}
+use Rattle.scm_frontier.specs.Situated.{Situated}
 use Rattle.scm_book.specs.declared.call.Decl.{Decl}
-use Rattle.scm_book.specs.Calls.{CallData, opens, claims, reports, shows, asks, ReplyData, done, ops, refused}
-use Rattle.scm_book.specs.Machine.{Machine, TraceState, new_trace, trace_named, with_trace, trace_in}
+use Rattle.scm_book.specs.Calls.{CallData, opens, claims, releases, reports, sets_mark, goes_back, raises, asks, asks_why, shows, lists, closes, ReplyData, done, marked, inconsistent, because, ops, listed, refused}
+use Rattle.scm_book.specs.Machine.{Machine, TraceState, new_trace, trace_named, with_trace, without_trace, trace_names, trace_in}
 use Rattle.scm_book.specs.Showing.{shown_operations}
-use Rattle.scm_book.specs.Refusals.{declared_cells, open_refusal, claim_refusal, report_refusal, show_refusal, ask_refusal}
+use Rattle.scm_book.specs.Refusals.{declared_cells, refusal_of}
 use Rattle.scm_book.specs.Verdicts.{Fits}
 
 -- the trace of this name is there, and this holds of it
@@ -27,22 +30,69 @@ Opens old session name procs budget decls reply new =
 -- the process is the caller's
 abbrev pub Claims : Machine → ℕ → List ℕ → ℕ → ReplyData → Machine → Type 0
 Claims old session name p reply new =
-    (reply ≡ done) × InTrace old name (λ state.
-    new ≡ with_trace old name (record state { claimants = slice_set state.claimants p (Some session) }))
+    InTrace old name (λ state. (reply ≡ done)
+    × (new ≡ with_trace old name (record state { claimants = slice_set state.claimants p (Some session) })))
+
+-- the process is nobody's
+abbrev pub Releases : Machine → List ℕ → ℕ → ReplyData → Machine → Type 0
+Releases old name p reply new =
+    InTrace old name (λ state. (reply ≡ done)
+    × (new ≡ with_trace old name (record state { claimants = slice_set state.claimants p None })))
 
 -- the operation that the access is stands last in the sequence of the process
-abbrev pub Reports : Machine → ℕ → List ℕ → ℕ → Access → ReplyData → Machine → Type 0
-Reports old session name p access reply new =
-    (reply ≡ done) × InTrace old name (λ state. IsOkAnd (lowered state.cells access) (λ op.
+abbrev pub Reports : Machine → List ℕ → ℕ → Access → ReplyData → Machine → Type 0
+Reports old name p access reply new =
+    InTrace old name (λ state. (reply ≡ done) × IsOkAnd (lowered state.cells access) (λ op.
     new ≡ with_trace old name (record state { sequences = pushed state.sequences p op })))
 
--- the operations of the process, each with the name of its cell, and nothing changes
-abbrev pub Shows : Machine → List ℕ → ℕ → ReplyData → Machine → Type 0
-Shows old name p reply new = (new ≡ old) × InTrace old name (λ state. reply ≡ ops (shown_operations state p))
+-- the present lengths are a mark; the reply is its number
+abbrev pub SetsMark : Machine → List ℕ → ReplyData → Machine → Type 0
+SetsMark old name reply new =
+    InTrace old name (λ state. (reply ≡ marked (length state.marks))
+    × (new ≡ with_trace old name (record state { marks = state.marks ++ lengths_of state.sequences ∷ [] })))
 
--- the verdict fits the trace and its budget, and nothing changes
-abbrev pub Asks : Machine → List ℕ → ReplyData → Machine → Type 0
-Asks old name reply new = (new ≡ old) × InTrace old name (λ state. Fits (trace_in state) state.budget reply)
+-- every sequence is cut to the mark, and the marks after it go
+abbrev pub GoesBack : Machine → List ℕ → ℕ → ReplyData → Machine → Type 0
+GoesBack old name m reply new =
+    InTrace old name (λ state. (reply ≡ done) × IsOkAnd (mark_at state.marks m) (λ lengths.
+    new ≡ with_trace old name
+    (record state { sequences = cut_lists state.sequences lengths; marks = marks_up_to state.marks m })))
+
+-- the budget is the new number
+abbrev pub Raises : Machine → List ℕ → ℕ → ReplyData → Machine → Type 0
+Raises old name n reply new =
+    InTrace old name (λ state. (reply ≡ done) × IsOkAnd (raised state.budget n) (λ budget.
+    new ≡ with_trace old name (record state { budget = budget })))
+
+-- this holds of the trace that a question is about: the present one, or as it stood at the mark
+abbrev pub IsAbout : TraceState → Option ℕ → (Trace → Type 0) → Type 0
+IsAbout state None P = P (trace_in state)
+IsAbout state (Some m) P = IsOkAnd (mark_at state.marks m) (λ lengths. P (cut_to (trace_in state) lengths))
+
+-- the verdict fits the trace and the trace's present budget; a refutation comes only with `why`
+abbrev pub Asks : TraceState → Option ℕ → ReplyData → Type 0
+Asks state mark reply =
+    IsAbout state mark (λ t. Fits t state.budget reply) × ((situations : List Situated) → reply ≢ because situations)
+
+-- the same with the refutation in place of `inconsistent`
+abbrev pub AsksWhy : TraceState → Option ℕ → ReplyData → Type 0
+AsksWhy state mark reply = IsAbout state mark (λ t. Fits t state.budget reply) × (reply ≢ inconsistent)
+
+-- what a session's call with this reply makes of the machine where it is not refused
+abbrev pub HasEffect : Machine → ℕ → CallData → ReplyData → Machine → Type 0
+HasEffect old session (opens name procs budget decls) reply new = Opens old session name procs budget decls reply new
+HasEffect old session (claims name p) reply new = Claims old session name p reply new
+HasEffect old session (releases name p) reply new = Releases old name p reply new
+HasEffect old session (reports name p access) reply new = Reports old name p access reply new
+HasEffect old session (sets_mark name) reply new = SetsMark old name reply new
+HasEffect old session (goes_back name m) reply new = GoesBack old name m reply new
+HasEffect old session (raises name n) reply new = Raises old name n reply new
+HasEffect old session (asks name mark) reply new = InTrace old name (λ state. Asks state mark reply × (new ≡ old))
+HasEffect old session (asks_why name mark) reply new = InTrace old name (λ state. AsksWhy state mark reply × (new ≡ old))
+HasEffect old session (shows name p) reply new =
+    InTrace old name (λ state. (reply ≡ ops (shown_operations state p)) × (new ≡ old))
+HasEffect old session lists reply new = (reply ≡ listed (trace_names old)) × (new ≡ old)
+HasEffect old session (closes name) reply new = (reply ≡ done) × (new ≡ without_trace old name)
 
 -- refused for this cause, with everything as it was; or with none the effect
 abbrev pub Unless : Option Refusal → ReplyData → Type 0 → Type 0 → Type 0
@@ -50,17 +100,8 @@ Unless (Some refusal) reply unchanged effect = (reply ≡ refused refusal) × un
 Unless None reply unchanged effect = effect
 
 abbrev pub IsStep : Machine → ℕ → CallData → ReplyData → Machine → Type 0
-IsStep old session (opens name procs budget decls) reply new =
-    Unless (open_refusal old name procs budget decls) reply (new ≡ old)
-    (Opens old session name procs budget decls reply new)
-IsStep old session (claims name p) reply new =
-    Unless (claim_refusal old name p) reply (new ≡ old) (Claims old session name p reply new)
-IsStep old session (reports name p access) reply new =
-    Unless (report_refusal old session name p access) reply (new ≡ old) (Reports old session name p access reply new)
-IsStep old session (shows name p) reply new =
-    Unless (show_refusal old name p) reply (new ≡ old) (Shows old name p reply new)
-IsStep old session (asks name) reply new =
-    Unless (ask_refusal old name) reply (new ≡ old) (Asks old name reply new)
+IsStep old session call reply new =
+    Unless (refusal_of old session call) reply (new ≡ old) (HasEffect old session call reply new)
 
 -- a step, or in its place the answer that memory was refused, with everything as it was
 abbrev pub IsStepOrNoMemory : Machine → ℕ → CallData → ReplyData → Machine → Type 0

@@ -1,45 +1,91 @@
 //! The book of open traces.
-ghost use Rattle.std.specs.Prelude.{◌≡◌};
-ghost use Rattle.scm_book.specs.Calls.{call_data, reply_data, opens, claims, reports, shows, asks};
+ghost use Rattle.std.specs.Prelude.{◌≡◌, [], map};
+ghost use Rattle.scm_book.specs.Calls.{call_data, reply_data, entry_data, opens, claims, releases, reports, sets_mark, goes_back, raises, asks, asks_why, shows, lists, closes};
 ghost use Rattle.scm_book.specs.Machine.{empty_machine};
-ghost use Rattle.scm_book.specs.Steps.{IsStepOrNoMemory};
+ghost use Rattle.scm_book.specs.Journal.{count_of as count_in, IsCall, IsLegalBook};
 
-use crate::open_trace::OpenTrace;
-use crate::{Call, Decl, Reply};
-use indexmap::IndexMap;
+use crate::journal::Journal;
+use crate::traces::Traces;
+use crate::{Call, Decl, Entry, Reply};
 use scm_cells::Name;
 use scm_lowering::Access;
-use scm_sequences::{MOST_TRACES, NoMemory, Refusal};
+use scm_sequences::Refusal;
 use std::alloc::Global;
 use std::marker::Model;
 
-/// The open traces, by name, in the order of their opening.
+/// The open traces, with a journal of the calls that were answered.
 ///
-/// Contracts see a record, whose field `machine` is the machine that the book stands for. A session is a number that
-/// the caller gives. Each call answers what the machine answers, or `Refused(NoMemory)` with the machine as it was.
+/// Contracts see a record: `machine` is the machine that the book stands for, and `journal` its entries, a legal history
+/// that ends in this machine. A session is a number that the caller gives.
+///
+/// Each call answers `Refused(JournalFull)` where the journal is full, before all else; then what the machine answers, or
+/// `Refused(NoMemory)`. After these two refusals nothing has changed; with any other reply the call and its reply stand
+/// last in the journal.
 #[derive(Drop)]
 pub struct Book {
     alloc: Global,
-    traces: IndexMap<Name, OpenTrace>,
+    traces: Traces,
+    journal: Journal,
 }
 
 impl Model for Book {
-    ghost use Rattle.scm_book.specs.Machine.{BookState};
+    ghost use Rattle.scm_book.specs.Journal.{BookState, IsLegalHistory};
 
     ghost Value = { BookState };
 
-    ghost view = { λ b. record { machine = record { traces = b.traces.entries } } };
+    ghost view = { λ b. record { journal = b.journal.entries; machine = b.traces } };
+
+    ghost invariant = { λ b. IsLegalHistory b.journal.entries b.traces };
 }
 
 impl Book {
-    /// A book with no traces.
+    /// A book with no traces and no entries.
     pub fn new(alloc: Global) -> Book
-        ensures { result.machine ≡ empty_machine }
+        ensures machine { result.machine ≡ empty_machine }
+        ensures journal { result.journal ≡ [] }
     {
         Book {
             alloc,
-            traces: IndexMap::new(alloc),
+            traces: Traces::new(alloc),
+            journal: Journal::new(alloc),
         }
+    }
+
+    /// The journal's entries, in order.
+    pub fn entries(&self) -> &[Entry]
+        ensures entries { map entry_data result.now ≡ self.now.journal }
+        ensures legal { IsLegalBook self.now }
+    {
+        self.journal.entries()
+    }
+
+    /// How many entries are of a session.
+    pub fn count_of(&self, session: u16) -> u64
+        ensures { result ≡ count_in session self.now.journal }
+    {
+        self.journal.count_of(session)
+    }
+
+    /// Makes a call of a session.
+    pub fn call(&mut self, session: u16, call: Call) -> Reply
+        ensures called { IsCall self.old session (call_data call) (reply_data result) self.new }
+        ensures legal { IsLegalBook self.new }
+    {
+        if self.journal.is_full() {
+            return Reply::Refused(Refusal::JournalFull);
+        }
+        if self.journal.make_room(session).is_err() {
+            return Reply::Refused(Refusal::NoMemory);
+        }
+        let reply = self.traces.call(session, &call);
+        if !reply.makes_entry() {
+            return reply;
+        }
+        let Ok(kept) = reply.copy() else {
+            return Reply::Refused(Refusal::NoMemory);
+        };
+        self.journal.enter(session, call, kept);
+        reply
     }
 
     /// Opens a trace, which the session owns. Refused `BadDeclaration` where the number of processes isn't 1 to
@@ -53,96 +99,122 @@ impl Book {
         budget: u64,
         cells: &[Decl],
     ) -> Reply
-        ensures { IsStepOrNoMemory self.old.machine session (opens name procs budget cells.now) (reply_data result) self.new.machine }
+        ensures called { IsCall self.old session (opens name procs budget cells.now) (reply_data result) self.new }
+        ensures legal { IsLegalBook self.new }
     {
-        let trace = match OpenTrace::new(self.alloc, session, procs, budget, cells) {
-            Ok(trace) => trace,
-            Err(refusal) => return Reply::Refused(refusal),
+        if self.journal.is_full() {
+            return Reply::Refused(Refusal::JournalFull);
+        }
+        let Ok(cells) = Vec::from_slice(self.alloc, cells) else {
+            return Reply::Refused(Refusal::NoMemory);
         };
-        if self.traces.contains_key(&name) {
-            return Reply::Refused(Refusal::NameTaken);
-        }
-        if self.traces.len() >= MOST_TRACES {
-            return Reply::Refused(Refusal::TooManyTraces);
-        }
-        match self.traces.insert(name, trace) {
-            Ok(_) => Reply::Done,
-            Err(_) => Reply::Refused(Refusal::NoMemory),
-        }
-    }
-
-    /// Claims a process for the session. Refused `NoSuchTrace`, `NoSuchProcess`, `ProcessTaken`.
-    pub fn claim(&mut self, session: u16, name: Name, process: u64) -> Reply
-        ensures { IsStepOrNoMemory self.old.machine session (claims name process) (reply_data result) self.new.machine }
-    {
-        let Some(trace) = self.traces.get_mut(&name) else {
-            return Reply::Refused(Refusal::NoSuchTrace);
-        };
-        match trace.claim(session, process) {
-            Ok(()) => Reply::Done,
-            Err(refusal) => Reply::Refused(refusal),
-        }
-    }
-
-    /// Adds the operation that an access is to the sequence of a process, in amortized constant time. Refused
-    /// `NoSuchTrace`, `NoSuchProcess`, `NotClaimed`, `NoSuchCell`, `WidthMismatch`, `ValueOutOfRange`, `SequenceFull`.
-    pub fn report(&mut self, session: u16, name: Name, process: u64, access: &Access) -> Reply
-        ensures { IsStepOrNoMemory self.old.machine session (reports name process access.now) (reply_data result) self.new.machine }
-    {
-        let Some(trace) = self.traces.get_mut(&name) else {
-            return Reply::Refused(Refusal::NoSuchTrace);
-        };
-        match trace.report(session, process, access) {
-            Ok(()) => Reply::Done,
-            Err(refusal) => Reply::Refused(refusal),
-        }
-    }
-
-    /// The operations of a process, as they are stored. Refused `NoSuchTrace`, `NoSuchProcess`.
-    pub fn show(&mut self, session: u16, name: Name, process: u64) -> Reply
-        ensures { IsStepOrNoMemory self.old.machine session (shows name process) (reply_data result) self.new.machine }
-    {
-        let Some(trace) = self.traces.get(&name) else {
-            return Reply::Refused(Refusal::NoSuchTrace);
-        };
-        match trace.show(self.alloc, process) {
-            Ok(operations) => Reply::Ops(operations),
-            Err(refusal) => Reply::Refused(refusal),
-        }
-    }
-
-    /// Whether the trace is sequentially consistent. Refused `NoSuchTrace`.
-    pub fn ask(&mut self, session: u16, name: Name) -> Reply
-        ensures { IsStepOrNoMemory self.old.machine session (asks name) (reply_data result) self.new.machine }
-    {
-        let Some(trace) = self.traces.get(&name) else {
-            return Reply::Refused(Refusal::NoSuchTrace);
-        };
-        match trace.ask(self.alloc) {
-            Ok(verdict) => verdict,
-            Err(NoMemory) => Reply::Refused(Refusal::NoMemory),
-        }
-    }
-
-    /// Makes the call that this is.
-    pub fn call(&mut self, session: u16, call: Call) -> Reply
-        ensures { IsStepOrNoMemory self.old.machine session (call_data call) (reply_data result) self.new.machine }
-    {
-        match call {
+        self.call(
+            session,
             Call::OpenTrace {
                 name,
                 procs,
                 budget,
                 cells,
-            } => self.open(session, name, procs, budget, &cells),
-            Call::ClaimProcess { name, process } => self.claim(session, name, process),
+            },
+        )
+    }
+
+    /// Claims a process for the session. Refused `NoSuchTrace`, `NoSuchProcess`, `ProcessTaken`.
+    pub fn claim(&mut self, session: u16, name: Name, process: u64) -> Reply
+        ensures called { IsCall self.old session (claims name process) (reply_data result) self.new }
+        ensures legal { IsLegalBook self.new }
+    {
+        self.call(session, Call::ClaimProcess { name, process })
+    }
+
+    /// Gives up a process that the session claimed. Refused `NoSuchTrace`, `NoSuchProcess`, `NotClaimed`.
+    pub fn release(&mut self, session: u16, name: Name, process: u64) -> Reply
+        ensures called { IsCall self.old session (releases name process) (reply_data result) self.new }
+        ensures legal { IsLegalBook self.new }
+    {
+        self.call(session, Call::ReleaseProcess { name, process })
+    }
+
+    /// Adds the operation that an access is to the sequence of a process, in amortized constant time. Refused
+    /// `NoSuchTrace`, `NoSuchProcess`, `NotClaimed`, `NoSuchCell`, `WidthMismatch`, `ValueOutOfRange`, `SequenceFull`.
+    pub fn report(&mut self, session: u16, name: Name, process: u64, access: &Access) -> Reply
+        ensures called { IsCall self.old session (reports name process access.now) (reply_data result) self.new }
+        ensures legal { IsLegalBook self.new }
+    {
+        self.call(
+            session,
             Call::Report {
                 name,
                 process,
-                access,
-            } => self.report(session, name, process, &access),
-            Call::ShowOps { name, process } => self.show(session, name, process),
-            Call::Ask { name } => self.ask(session, name),
-        }
+                access: *access,
+            },
+        )
+    }
+
+    /// Marks the present lengths of a trace; the reply is the number of the mark. Refused `NoSuchTrace`, `NotOwner`,
+    /// `TooManyMarks`.
+    pub fn mark(&mut self, session: u16, name: Name) -> Reply
+        ensures called { IsCall self.old session (sets_mark name) (reply_data result) self.new }
+        ensures legal { IsLegalBook self.new }
+    {
+        self.call(session, Call::SetMark { name })
+    }
+
+    /// Cuts every sequence of a trace to a mark and drops the marks after it; claims and budget stay. Refused
+    /// `NoSuchTrace`, `NotOwner`, `NoSuchMark`.
+    pub fn back(&mut self, session: u16, name: Name, mark: u64) -> Reply
+        ensures called { IsCall self.old session (goes_back name mark) (reply_data result) self.new }
+        ensures legal { IsLegalBook self.new }
+    {
+        self.call(session, Call::GoBack { name, mark })
+    }
+
+    /// Raises the budget of a trace; the present number itself is taken. Refused `NoSuchTrace`, `NotOwner`, `BadBudget`.
+    pub fn raise(&mut self, session: u16, name: Name, budget: u64) -> Reply
+        ensures called { IsCall self.old session (raises name budget) (reply_data result) self.new }
+        ensures legal { IsLegalBook self.new }
+    {
+        self.call(session, Call::RaiseBudget { name, budget })
+    }
+
+    /// Whether the trace is sequentially consistent, as it is or as it stood at a mark. Refused `NoSuchTrace`,
+    /// `NoSuchMark`.
+    pub fn ask(&mut self, session: u16, name: Name, mark: Option<u64>) -> Reply
+        ensures called { IsCall self.old session (asks name mark) (reply_data result) self.new }
+        ensures legal { IsLegalBook self.new }
+    {
+        self.call(session, Call::Ask { name, mark })
+    }
+
+    /// The same, with a refutation in place of `Inconsistent`. Refused `NoSuchTrace`, `NoSuchMark`.
+    pub fn why(&mut self, session: u16, name: Name, mark: Option<u64>) -> Reply
+        ensures called { IsCall self.old session (asks_why name mark) (reply_data result) self.new }
+        ensures legal { IsLegalBook self.new }
+    {
+        self.call(session, Call::Why { name, mark })
+    }
+
+    /// The operations of a process, as they are stored. Refused `NoSuchTrace`, `NoSuchProcess`.
+    pub fn show(&mut self, session: u16, name: Name, process: u64) -> Reply
+        ensures called { IsCall self.old session (shows name process) (reply_data result) self.new }
+        ensures legal { IsLegalBook self.new }
+    {
+        self.call(session, Call::ShowOps { name, process })
+    }
+
+    /// The names of the open traces, in the order of their opening.
+    pub fn list(&mut self, session: u16) -> Reply
+        ensures called { IsCall self.old session lists (reply_data result) self.new }
+        ensures legal { IsLegalBook self.new }
+    {
+        self.call(session, Call::ListTraces)
+    }
+
+    /// Closes a trace; the others keep their order. Refused `NoSuchTrace`, `NotOwner`.
+    pub fn close(&mut self, session: u16, name: Name) -> Reply
+        ensures called { IsCall self.old session (closes name) (reply_data result) self.new }
+        ensures legal { IsLegalBook self.new }
+    {
+        self.call(session, Call::CloseTrace { name })
     }
 }

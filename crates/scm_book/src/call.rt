@@ -29,19 +29,50 @@ pub enum Call {
         name: Name,
         process: u64,
     },
+    /// Gives a claimed process of a trace up.
+    ReleaseProcess {
+        name: Name,
+        process: u64,
+    },
     /// Reports an access of a process.
     Report {
         name: Name,
         process: u64,
         access: Access,
     },
+    /// Marks the present lengths of a trace.
+    SetMark {
+        name: Name,
+    },
+    /// Cuts a trace to a mark.
+    GoBack {
+        name: Name,
+        mark: u64,
+    },
+    /// Raises the budget of a trace.
+    RaiseBudget {
+        name: Name,
+        budget: u64,
+    },
+    /// Asks whether a trace is sequentially consistent, as it is or as it stood at a mark.
+    Ask {
+        name: Name,
+        mark: Option<u64>,
+    },
+    /// The same, with a refutation where it is not.
+    Why {
+        name: Name,
+        mark: Option<u64>,
+    },
     /// Shows the operations of a process of a trace.
     ShowOps {
         name: Name,
         process: u64,
     },
-    /// Asks whether a trace is sequentially consistent.
-    Ask {
+    /// Lists the open traces.
+    ListTraces,
+    /// Closes a trace.
+    CloseTrace {
         name: Name,
     },
 }
@@ -67,6 +98,10 @@ impl Call {
                 name: *name,
                 process: *process,
             },
+            Call::ReleaseProcess { name, process } => Call::ReleaseProcess {
+                name: *name,
+                process: *process,
+            },
             Call::Report {
                 name,
                 process,
@@ -76,11 +111,29 @@ impl Call {
                 process: *process,
                 access: *access,
             },
+            Call::SetMark { name } => Call::SetMark { name: *name },
+            Call::GoBack { name, mark } => Call::GoBack {
+                name: *name,
+                mark: *mark,
+            },
+            Call::RaiseBudget { name, budget } => Call::RaiseBudget {
+                name: *name,
+                budget: *budget,
+            },
+            Call::Ask { name, mark } => Call::Ask {
+                name: *name,
+                mark: *mark,
+            },
+            Call::Why { name, mark } => Call::Why {
+                name: *name,
+                mark: *mark,
+            },
             Call::ShowOps { name, process } => Call::ShowOps {
                 name: *name,
                 process: *process,
             },
-            Call::Ask { name } => Call::Ask { name: *name },
+            Call::ListTraces => Call::ListTraces,
+            Call::CloseTrace { name } => Call::CloseTrace { name: *name },
         })
     }
 }

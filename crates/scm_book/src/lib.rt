@@ -1,16 +1,22 @@
-//! The book: the machine that holds the open traces, and its calls.
+//! The book: the machine that holds the open traces, its calls, and their journal.
 #![tactic(auto)]
 
 mod book;
 mod call;
 mod declarations;
+mod entry;
+mod event;
+mod journal;
 mod open_trace;
 mod question;
 mod reply;
 mod showing;
 #[cfg(test)]
 mod tests;
+mod traces;
 
 pub use book::Book;
 pub use call::{Call, Decl};
+pub use entry::Entry;
+pub use event::{Event, run_events};
 pub use reply::{Reply, Shown};

@@ -1,22 +1,25 @@
 //! An open trace.
-ghost use Rattle.std.specs.Prelude.{◌≡◌, None, Some, IfOk, IfErr, OnOk, OnErr, IsOkAnd, IsSomeAnd, slice_set};
+ghost use Rattle.std.specs.Prelude.{◌≡◌, ◌∷◌, ◌++◌, [], ◌<◌, ◌==◌, length, None, Some, IfOk, IfErr, OnOk, OnErr, IsOkAnd, IsSomeAnd, slice_set, MatchResult};
 ghost use Rattle.scm_sequences.specs.Refusals.{Refuses};
-ghost use Rattle.scm_sequences.specs.Sequences.{pushed};
+ghost use Rattle.scm_sequences.specs.Sequences.{pushed, cut_lists, lengths_of};
+ghost use Rattle.scm_budget.specs.Budgets.{raised};
+ghost use Rattle.scm_marks.specs.MarkLists.{mark_at, marks_up_to};
 ghost use Rattle.scm_lowering.specs.Lowering.{lowered};
 ghost use Rattle.scm_book.specs.Calls.{reply_data};
-ghost use Rattle.scm_book.specs.Machine.{new_trace, trace_in};
-ghost use Rattle.scm_book.specs.Refusals.{trace_cause, claim_cause, report_cause, no_process, declared_cells};
+ghost use Rattle.scm_book.specs.Machine.{new_trace};
+ghost use Rattle.scm_book.specs.Refusals.{trace_cause, claim_cause, release_cause, report_cause, not_owner, mark_cause, back_cause, raise_cause, question_cause, no_process, declared_cells};
 ghost use Rattle.scm_book.specs.Showing.{shown_operations};
-ghost use Rattle.scm_book.specs.Verdicts.{Fits};
+ghost use Rattle.scm_book.specs.Steps.{Asks, AsksWhy};
 
 use crate::declarations::declare_cells;
-use crate::question::verdict;
+use crate::question::{explanation, verdict};
 use crate::showing::show_all;
 use crate::{Decl, Reply, Shown};
 use scm_budget::Budget;
 use scm_cells::Cells;
 use scm_lowering::{Access, lower};
-use scm_sequences::{MOST_PROCESSES, NoMemory, Refusal, Sequences};
+use scm_marks::Marks;
+use scm_sequences::{MOST_PROCESSES, Refusal, Sequences};
 use smallvec::SmallVec;
 use std::alloc::Global;
 use std::marker::Model;
@@ -29,18 +32,18 @@ pub(crate) struct OpenTrace {
     cells: Cells,
     sequences: Sequences,
     claimants: SmallVec<Option<u16>, MOST_PROCESSES>,
+    marks: Marks,
 }
 
 impl Model for OpenTrace {
-    ghost use Rattle.std.specs.Prelude.{[]};
     ghost use Rattle.scm_book.specs.Machine.{TraceState};
     ghost use Rattle.scm_book.specs.Sound.{IsSoundTrace};
 
     ghost Value = { TraceState };
 
-    ghost view = { λ t. record { owner = t.owner; budget = t.budget; cells = t.cells; sequences = t.sequences; claimants = t.claimants.items; marks = [] } };
+    ghost view = { λ t. record { owner = t.owner; budget = t.budget; cells = t.cells; sequences = t.sequences; claimants = t.claimants.items; marks = t.marks } };
 
-    ghost invariant = { λ t. IsSoundTrace (record { owner = t.owner; budget = t.budget; cells = t.cells; sequences = t.sequences; claimants = t.claimants.items; marks = [] }) };
+    ghost invariant = { λ t. IsSoundTrace (record { owner = t.owner; budget = t.budget; cells = t.cells; sequences = t.sequences; claimants = t.claimants.items; marks = t.marks }) };
 }
 
 impl OpenTrace {
@@ -71,6 +74,7 @@ impl OpenTrace {
             cells,
             sequences,
             claimants,
+            marks: Marks::new(alloc),
         })
     }
 
@@ -91,6 +95,17 @@ impl OpenTrace {
         Ok(())
     }
 
+    /// Gives up a process that the session claimed. Refused `NoSuchProcess`, then `NotClaimed`.
+    pub(crate) fn release(&mut self, session: u16, process: u64) -> Result<(), Refusal>
+        ensures ok { OnOk result ((release_cause self.old session process ≡ None) × (self.new ≡ record self.old { claimants = slice_set self.old.claimants process None })) }
+        ensures err { IfErr result (λ refusal. release_cause self.old session process ≡ Some refusal) }
+        ensures unchanged { OnErr result (self.new ≡ self.old) }
+    {
+        let process = self.check_claimant(session, process)?;
+        self.claimants[process] = None;
+        Ok(())
+    }
+
     /// Adds the operation that an access is to the sequence of a process, in amortized constant time. Refused
     /// `NoSuchProcess`, `NotClaimed`, what `lower` refuses, then `SequenceFull`.
     pub(crate) fn report(
@@ -103,6 +118,15 @@ impl OpenTrace {
         ensures err { IfErr result (Refuses (report_cause self.old session process access.now)) }
         ensures unchanged { OnErr result (self.new ≡ self.old) }
     {
+        let process = self.check_claimant(session, process)?;
+        let op = lower(&self.cells, access)?;
+        self.sequences.push(process, op)
+    }
+
+    /// The place of a process that the session claimed. Refused `NoSuchProcess`, then `NotClaimed`.
+    fn check_claimant(&self, session: u16, process: u64) -> Result<usize, Refusal>
+        ensures { MatchResult result (λ place. (release_cause self.now session process ≡ None) × (place ≡ process) × (place < length self.now.claimants)) (λ refusal. release_cause self.now session process ≡ Some refusal) }
+    {
         let process = process as usize;
         if process >= self.claimants.len() {
             return Err(Refusal::NoSuchProcess);
@@ -110,8 +134,80 @@ impl OpenTrace {
         if self.claimants[process] != Some(session) {
             return Err(Refusal::NotClaimed);
         }
-        let op = lower(&self.cells, access)?;
-        self.sequences.push(process, op)
+        Ok(process)
+    }
+
+    /// Refused `NotOwner` where the session did not open the trace.
+    pub(crate) fn check_owner(&self, session: u16) -> Result<(), Refusal>
+        ensures { MatchResult result (λ _. not_owner self.now session ≡ None) (λ refusal. not_owner self.now session ≡ Some refusal) }
+    {
+        if self.owner == session {
+            Ok(())
+        } else {
+            Err(Refusal::NotOwner)
+        }
+    }
+
+    /// Marks the present lengths, and gives the number of the mark. Refused `NotOwner`, then `TooManyMarks`.
+    pub(crate) fn mark(&mut self, session: u16) -> Result<u64, Refusal>
+        ensures number { IfOk result (λ n. n ≡ length self.old.marks) }
+        ensures ok { OnOk result ((mark_cause self.old session ≡ None) × (self.new ≡ record self.old { marks = self.old.marks ++ lengths_of self.old.sequences ∷ [] })) }
+        ensures err { IfErr result (Refuses (mark_cause self.old session)) }
+        ensures unchanged { OnErr result (self.new ≡ self.old) }
+    {
+        self.check_owner(session)?;
+        self.marks.set(self.sequences.lengths())
+    }
+
+    /// Cuts every sequence to a mark and drops the marks after it. Refused `NotOwner`, then `NoSuchMark`.
+    pub(crate) fn back(&mut self, session: u16, mark: u64) -> Result<(), Refusal>
+        ensures ok { OnOk result ((back_cause self.old session mark ≡ None) × IsOkAnd (mark_at self.old.marks mark) (λ lengths. self.new ≡ record self.old { sequences = cut_lists self.old.sequences lengths; marks = marks_up_to self.old.marks mark })) }
+        ensures err { IfErr result (λ refusal. back_cause self.old session mark ≡ Some refusal) }
+        ensures unchanged { OnErr result (self.new ≡ self.old) }
+    {
+        self.check_owner(session)?;
+        let lengths = self.marks.get(mark)?;
+        self.sequences.cut(lengths);
+        self.marks.back(mark);
+        Ok(())
+    }
+
+    /// Raises the budget. Refused `NotOwner`, then `BadBudget` below the present budget or above `MOST_SITUATIONS`.
+    pub(crate) fn raise(&mut self, session: u16, budget: u64) -> Result<(), Refusal>
+        ensures ok { OnOk result ((raise_cause self.old session budget ≡ None) × IsOkAnd (raised self.old.budget budget) (λ number. self.new ≡ record self.old { budget = number })) }
+        ensures err { IfErr result (λ refusal. raise_cause self.old session budget ≡ Some refusal) }
+        ensures unchanged { OnErr result (self.new ≡ self.old) }
+    {
+        self.check_owner(session)?;
+        self.budget.raise(budget)
+    }
+
+    /// Whether the trace is consistent under its budget, as it is or as it stood at a mark. Refused `NoSuchMark`.
+    pub(crate) fn ask(&self, alloc: Global, mark: Option<u64>) -> Result<Reply, Refusal>
+        ensures ok { IfOk result (λ reply. (question_cause self.now mark ≡ None) × Asks self.now mark (reply_data reply)) }
+        ensures err { IfErr result (Refuses (question_cause self.now mark)) }
+    {
+        let limit = self.budget.limit();
+        let Some(mark) = mark else {
+            let lengths = self.sequences.lengths();
+            return Ok(verdict(alloc, &self.cells, &self.sequences, &lengths, limit)?);
+        };
+        let lengths = self.marks.get(mark)?;
+        Ok(verdict(alloc, &self.cells, &self.sequences, lengths, limit)?)
+    }
+
+    /// The same, with a refutation where the trace is not consistent. Refused `NoSuchMark`.
+    pub(crate) fn why(&self, alloc: Global, mark: Option<u64>) -> Result<Reply, Refusal>
+        ensures ok { IfOk result (λ reply. (question_cause self.now mark ≡ None) × AsksWhy self.now mark (reply_data reply)) }
+        ensures err { IfErr result (Refuses (question_cause self.now mark)) }
+    {
+        let limit = self.budget.limit();
+        let Some(mark) = mark else {
+            let lengths = self.sequences.lengths();
+            return Ok(explanation(alloc, &self.cells, &self.sequences, &lengths, limit)?);
+        };
+        let lengths = self.marks.get(mark)?;
+        Ok(explanation(alloc, &self.cells, &self.sequences, lengths, limit)?)
     }
 
     /// The operations of a process, each with the name of its cell. Refused `NoSuchProcess`.
@@ -124,12 +220,5 @@ impl OpenTrace {
             return Err(Refusal::NoSuchProcess);
         }
         Ok(show_all(alloc, &self.cells, self.sequences.operations(process))?)
-    }
-
-    /// Whether the trace is consistent, under its budget.
-    pub(crate) fn ask(&self, alloc: Global) -> Result<Reply, NoMemory>
-        ensures { IfOk result (λ reply. Fits (trace_in self.now) self.now.budget (reply_data reply)) }
-    {
-        verdict(alloc, &self.cells, &self.sequences, self.budget.limit())
     }
 }

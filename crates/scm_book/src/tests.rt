@@ -1,6 +1,6 @@
 //! The calls on their happy paths, and each refusal of each call once.
 
-use crate::{Book, Call, Decl, Reply};
+use crate::{Book, Call, Decl, Event, Reply, run_events};
 use scm_cells::{Name, Num, Width};
 use scm_lowering::Access;
 use scm_sequences::{
@@ -77,7 +77,7 @@ fn message_passing_is_consistent(rt: HostRuntime) -> Result<(), Fail> {
     let mut book = Book::new(rt.alloc());
     open_two(&rt, &mut book, 100);
     pass_message(&rt, &mut book, 1);
-    let Reply::Consistent(schedule) = book.ask(BERT, name(&rt, b"t")) else {
+    let Reply::Consistent(schedule) = book.ask(BERT, name(&rt, b"t"), None) else {
         return Err("not consistent".into());
     };
     assert_eq!(rt; schedule.as_slice(), [0, 0, 1, 1].as_slice());
@@ -89,7 +89,7 @@ fn message_lost_is_inconsistent(rt: HostRuntime) {
     let mut book = Book::new(rt.alloc());
     open_two(&rt, &mut book, 100);
     pass_message(&rt, &mut book, 0);
-    assert!(rt; matches!(book.ask(ANNA, name(&rt, b"t")), Reply::Inconsistent));
+    assert!(rt; matches!(book.ask(ANNA, name(&rt, b"t"), None), Reply::Inconsistent));
 }
 
 #[test]
@@ -97,7 +97,7 @@ fn small_budget_is_undecided(rt: HostRuntime) {
     let mut book = Book::new(rt.alloc());
     open_two(&rt, &mut book, 1);
     pass_message(&rt, &mut book, 0);
-    assert!(rt; matches!(book.ask(ANNA, name(&rt, b"t")), Reply::Undecided));
+    assert!(rt; matches!(book.ask(ANNA, name(&rt, b"t"), None), Reply::Undecided));
 }
 
 #[test]
@@ -124,7 +124,14 @@ fn calls_are_copied_and_made(rt: HostRuntime) -> Result<(), Fail> {
         access: load(&rt, b"x", 0),
     };
     assert!(rt; is_done(book.call(ANNA, report.copy()?)));
-    let verdict = book.call(ANNA, Call::Ask { name: t }.copy()?);
+    let verdict = book.call(
+        ANNA,
+        Call::Ask {
+            name: t,
+            mark: None,
+        }
+        .copy()?,
+    );
     assert!(rt; matches!(verdict.copy()?, Reply::Undecided));
     Ok(())
 }
@@ -255,5 +262,88 @@ fn operations_past_the_most_are_refused(rt: HostRuntime) {
 #[test]
 fn questions_are_refused(rt: HostRuntime) {
     let mut book = Book::new(rt.alloc());
-    assert_refused(&rt, book.ask(ANNA, name(&rt, b"t")), Refusal::NoSuchTrace);
+    assert_refused(
+        &rt,
+        book.ask(ANNA, name(&rt, b"t"), None),
+        Refusal::NoSuchTrace,
+    );
+}
+
+#[test]
+fn a_return_cuts_to_its_mark(rt: HostRuntime) {
+    let mut book = Book::new(rt.alloc());
+    open_two(&rt, &mut book, 1);
+    let t = name(&rt, b"t");
+    assert!(rt; matches!(book.mark(ANNA, t), Reply::MarkSet(0)));
+    pass_message(&rt, &mut book, 0);
+    assert!(rt; matches!(book.ask(BERT, t, None), Reply::Undecided));
+    assert!(rt; matches!(book.ask(BERT, t, Some(0)), Reply::Consistent(_)));
+    assert!(rt; is_done(book.raise(ANNA, t, 100)));
+    assert!(rt; matches!(book.ask(BERT, t, None), Reply::Inconsistent));
+    assert!(rt; is_done(book.back(ANNA, t, 0)));
+    assert!(rt; matches!(book.ask(BERT, t, None), Reply::Consistent(_)));
+}
+
+#[test]
+fn a_lost_message_is_refuted(rt: HostRuntime) -> Result<(), Fail> {
+    let mut book = Book::new(rt.alloc());
+    open_two(&rt, &mut book, 100);
+    pass_message(&rt, &mut book, 0);
+    let Reply::Because(situations) = book.why(ANNA, name(&rt, b"t"), None).copy()? else {
+        return Err("not refuted".into());
+    };
+    assert_eq!(rt; situations.len(), 4);
+    Ok(())
+}
+
+#[test]
+fn traces_are_released_listed_and_closed(rt: HostRuntime) -> Result<(), Fail> {
+    let mut book = Book::new(rt.alloc());
+    open_two(&rt, &mut book, 100);
+    let t = name(&rt, b"t");
+    assert!(rt; is_done(book.release(ANNA, t, 0)));
+    assert!(rt; is_done(book.claim(BERT, t, 0)));
+    let Reply::Traces(names) = book.list(BERT).copy()? else {
+        return Err("not listed".into());
+    };
+    assert_eq!(rt; names.len(), 1);
+    assert_refused(&rt, book.close(BERT, t), Refusal::NotOwner);
+    assert!(rt; is_done(book.close(ANNA, t)));
+    assert_refused(&rt, book.ask(ANNA, t, None), Refusal::NoSuchTrace);
+    Ok(())
+}
+
+#[test]
+fn events_are_answered_and_entered(rt: HostRuntime) -> Result<(), Fail> {
+    let t = name(&rt, b"t");
+    let events = vec![in rt.alloc();
+        Event::CallBy {
+            session: ANNA,
+            call: Call::ListTraces
+        },
+        Event::CallBy {
+            session: BERT,
+            call: Call::CloseTrace { name: t }
+        },
+        Event::CallBy {
+            session: ANNA,
+            call: Call::Ask {
+                name: t,
+                mark: Some(0)
+            }
+        },
+    ]?;
+    let Ok((book, replies)) = run_events(rt.alloc(), Book::new(rt.alloc()), events) else {
+        return Err("no memory".into());
+    };
+    assert_eq!(rt; replies.len(), 3);
+    assert!(rt; matches!(replies[0], Reply::Traces(_)));
+    let numbers: [u64; 3] = [0, 0, 1];
+    for (entry, number) in book.entries().iter().zip(numbers.iter()) {
+        assert_eq!(rt; entry.number, *number);
+    }
+    assert_eq!(rt; book.entries().len(), 3);
+    assert_eq!(rt; book.count_of(ANNA), 2);
+    assert_eq!(rt; book.count_of(BERT), 1);
+    Ok(())
 }

@@ -1,12 +1,14 @@
 //! The words of the command line.
 
-use std::env;
+use std::alloc::Global;
 use std::rt::Env;
+use std::{env, io};
 
-/// Whether the command line has a word after the program's name, or can't be read.
-pub fn has_words(rt: &(impl Env + Alloc)) -> bool {
-    match env::args(rt) {
-        Ok(args) => args.count() > 1,
-        Err(_) => true,
+/// The words after the program's name.
+pub fn words(rt: &(impl Env + Alloc<A = Global>)) -> io::Result<Vec<String>> {
+    let mut words = Vec::new(rt.alloc());
+    for word in env::args(rt)?.skip(1) {
+        words.push(word)?;
     }
+    Ok(words)
 }

@@ -4,12 +4,20 @@
 #[cfg(test)]
 mod accesses;
 #[cfg(test)]
+mod book;
+#[cfg(test)]
 mod budgets;
+#[cfg(test)]
+mod journals;
 #[cfg(test)]
 mod lines;
 #[cfg(test)]
 mod litmus;
 #[cfg(test)]
+mod marks;
+#[cfg(test)]
 mod refusals;
+#[cfg(test)]
+mod refutations;
 #[cfg(test)]
 mod script;

@@ -104,3 +104,36 @@ fn too_many_sessions(rt: HostRuntime) -> Result<(), Fail> {
     assert!(rt; written.as_slice().ends_with(last.as_bytes()));
     Ok(())
 }
+
+/// A line that is too long, one without a name, and a last line without a line feed.
+#[test]
+fn lines_that_are_too_long_or_unnamed(rt: HostRuntime) -> Result<(), Fail> {
+    let mut script = Vec::new(rt.alloc());
+    for _ in 0..1025 {
+        script.push(b'a')?;
+    }
+    script.extend_from_slice(b"\nA list\na list")?;
+    let written = replies_to(rt.alloc(), script.as_slice()).expect(
+        &rt,
+        "the run ended without a fault",
+    );
+    let replies = "? refused 1 bad-line\n? refused 1 bad-line\na traces 0\n";
+    assert!(rt; written.as_slice() == replies.as_bytes());
+    Ok(())
+}
+
+/// A longer line is a bad one even where it begins as a comment.
+#[test]
+fn a_comment_that_is_too_long(rt: HostRuntime) -> Result<(), Fail> {
+    let mut script = Vec::new(rt.alloc());
+    for _ in 0..1025 {
+        script.push(b'#')?;
+    }
+    script.extend_from_slice(b"\n# short\n")?;
+    let written = replies_to(rt.alloc(), script.as_slice()).expect(
+        &rt,
+        "the run ended without a fault",
+    );
+    assert!(rt; written.as_slice() == b"? refused 1 bad-line\n".as_slice());
+    Ok(())
+}

@@ -1,3 +1,7 @@
 pub mod FrontSteps
 pub mod LinkLaws
 pub mod WalkLaws
+pub mod RisingLaws
+pub mod StayingLaws
+pub mod PickingLaws
+pub mod RefutingTests

@@ -1,7 +1,13 @@
 pub mod Leading
 pub mod LeadingLaws
 pub mod Walks
+pub mod Picking
+pub mod Refuting
+pub mod RefutingLaws
 pub use Rattle.scm_frontier.specs.Situated
+pub use Rattle.scm_frontier.specs.Steps
+pub use Rattle.scm_frontier.specs.Comparisons
+pub use Rattle.scm_frontier.specs.Reached
 pub use Rattle.scm_reach.specs.Kept
 pub use Rattle.scm_sequences.specs.Traces
 pub use Rattle.scm_sequences.specs.Fronts

@@ -1,12 +1,20 @@
-//! Schedules: the one that leads to a situation, and the test whether one is legal.
+//! Schedules: the one that leads to a situation, and the test whether one is legal. Refutations: the situations of a
+//! set that was closed, and the test whether a list of situations leaves no schedule.
 #![tactic(auto)]
 
+mod counts;
+mod gathering;
 mod legal;
 mod links;
+mod refuting;
+#[cfg(test)]
+mod refuting_tests;
 mod walk;
 
+pub use gathering::refutation;
 pub use legal::is_legal;
 pub use links::schedule;
+pub use refuting::refutes;
 
 #[cfg(test)]
 mod tests;

@@ -1,5 +1,5 @@
 -- The first element that passes a test is the first that a filter keeps.
-use Rattle.std.proofs.Common.{◌≡◌, ℕ, zero, suc, ◌<◌, ◌≤◌, List, [], ◌∷◌, length, refl, sym, ap, ◌∙◌, arith, Option, None, Some, Bool, true, false, cond, filter, option_map, slice_get, MatchOption}
+use Rattle.std.proofs.Common.{◌≡◌, ℕ, zero, suc, ◌<◌, List, [], ◌∷◌, length, refl, sym, ap, ◌∙◌, arith, Option, None, Some, Bool, true, false, filter, option_map, slice_get, MatchOption}
 use Rattle.std.specs.List.{AllWithin, HoldsAt}
 
 module _ {X : Type 0} (test : X → Bool) where

@@ -1,13 +1,13 @@
 -- A line reader's line grows byte by byte, up to the limit, while a piece of the script comes in.
-use Rattle.std.proofs.Common.{◌≡◌, ◌≢◌, ℕ, ◌+◌, ◌<◌, ◌≤◌, List, [], ◌∷◌, ◌++◌, length, take, refl, sym, ap, ◌∙◌, subst, arith, Option, Bool, true, false, nat_lt, min, None, Some, if◌then◌else◌, length-append, length-take}
+use Rattle.std.proofs.Common.{◌≡◌, ◌≢◌, ℕ, ◌<◌, ◌≤◌, List, [], ◌∷◌, ◌++◌, length, take, refl, sym, ap, ◌∙◌, arith, Option, Bool, true, false, nat_lt, min, if◌then◌else◌, length-append, length-take}
 use Rattle.std.proofs.lemmas.Bool.{lt-ltb, le-ltb, ltb-false}
-use Rattle.std.proofs.lemmas.List.{nil_from_length, take_all, take-append-le}
-use Rattle.std.proofs.lemmas.List.Elements.{All-nil, All-push}
-use Rattle.std.proofs.KnownBytes.{Consumes-nil, Consumes-trans, Consumes-kept, Keeps-trans, prepend_known-nil}
+use Rattle.std.proofs.lemmas.List.{take_all, take-append-le}
+use Rattle.std.proofs.lemmas.List.Elements.{All-push}
+use Rattle.std.proofs.KnownBytes.{Consumes-trans, Consumes-kept}
 use Rattle.std.specs.Io.BufRead.{strip_last}
-use Rattle.std.specs.Io.KnownBytes.{Consumes, Keeps, IsAtEnd, prepend_known}
+use Rattle.std.specs.Io.KnownBytes.{Consumes, Keeps, IsAtEnd}
 use Rattle.scm_sequences.specs.declared.limits.TheConstants.{LONGEST_LINE}
-use Rattle.scm_sessions.specs.declared.reading.Cut.TheVariants.{Whole, Last, End}
+use Rattle.scm_sessions.specs.declared.reading.Cut.TheVariants.{Whole, Last}
 use Rattle.scm_sessions.specs.Lines.{Line, too_long, text, line_of, HasNoFeed}
 use Rattle.scm_sessions.specs.Reading.{TakesLine}
 
@@ -21,15 +21,6 @@ pub record HasGathered (old new : Option (List ℕ)) (line : List ℕ) (is_long 
 
 no_feed-push : (piece : List ℕ) (byte : ℕ) → HasNoFeed piece → byte ≢ 10 → HasNoFeed (piece ++ byte ∷ [])
 no_feed-push piece byte none other = let P : ℕ → Type 0 = λ b. b ≢ 10 in All-push P piece byte none other
-
-pub HasGathered-none : (a : Option (List ℕ)) → HasGathered a a [] false
-HasGathered-none a = record {
-  piece = [];
-  no_feed = let P : ℕ → Type 0 = λ b. b ≢ 10 in All-nil P;
-  came = Consumes-nil a;
-  kept = refl;
-  long = refl;
-}
 
 -- the same, where what is kept stands in another place
 pub HasGathered-same : {a b : Option (List ℕ)} {line other : List ℕ} {is_long is_other_long : Bool} → HasGathered a b line is_long
@@ -106,24 +97,3 @@ pub TakesLine-last : {a b : Option (List ℕ)} {line : List ℕ} {is_long : Bool
 TakesLine-last {a} {b} {line} {is_long} c had kept end some =
     let more : 0 < length had.piece = omega (arith, kept_length line had.piece had.kept) in
     (had.piece, had.no_feed, more, Consumes-kept a b c had.piece had.came kept, end, held_is line is_long had)
-
-consumes_none : (a b c : Option (List ℕ)) (piece : List ℕ) → length piece ≡ 0 → Consumes a b piece → Keeps b c → Keeps a c
-consumes_none None b c piece none came kept = tt
-consumes_none (Some x) None c piece none came kept = absurd came
-consumes_none (Some x) (Some y) None piece none came kept = absurd kept
-consumes_none (Some x) (Some y) (Some z) piece none came kept =
-    let empty : piece ≡ [] = nil_from_length piece none in kept ∙ sym (came ∙ ap (λ l. l ++ y) empty)
-
--- the end came after no byte
-pub TakesLine-end : {a b : Option (List ℕ)} {line : List ℕ} {is_long : Bool} (c : Option (List ℕ)) → HasGathered a b line is_long
-    → Keeps b c → IsAtEnd c → length line ≡ 0 → (l : Line) → TakesLine End a c l
-TakesLine-end {a} {b} {line} {is_long} c had kept end none l =
-    let nothing : length had.piece ≡ 0 = omega (arith, kept_length line had.piece had.kept) in
-    (end, consumes_none a b c had.piece nothing had.came kept)
-
--- a read failed, and nothing is left of the reads before it
-pub broken_off : {a b : Option (List ℕ)} {line : List ℕ} {is_long : Bool} (unread : List ℕ) (left : Option (List ℕ)) → HasGathered a b line is_long
-    → unread ≡ [] → Keeps b (prepend_known unread left) → (part : List ℕ) × HasNoFeed part × Consumes a left part
-broken_off {a} {b} {line} {is_long} unread left had none kept =
-    let same : prepend_known unread left ≡ left = ap (λ l. prepend_known l left) none ∙ prepend_known-nil left in
-    (had.piece, had.no_feed, subst (λ (c : Option (List ℕ)). Consumes a c had.piece) same (Consumes-kept a b _ had.piece had.came kept))

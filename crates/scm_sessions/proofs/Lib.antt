@@ -3,5 +3,8 @@ pub mod Gathering
 pub mod FirstPassing
 pub mod Entering
 pub mod Answering
+pub mod Joining
+pub mod Numbering
+pub mod Naming
 pub mod Cutting
 pub mod Running

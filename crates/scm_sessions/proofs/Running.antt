@@ -1,9 +1,9 @@
 -- A script run goes on by a line, and ends.
-use Rattle.std.proofs.Common.{◌≡◌, ℕ, ◌<◌, List, [], ◌∷◌, ◌++◌, length, refl, sym, ap, ◌∙◌, subst, inl, inr, Option, None, Some, append_assoc, append-nil}
+use Rattle.std.proofs.Common.{◌≡◌, ℕ, List, [], ◌∷◌, ◌++◌, refl, sym, ap, ◌∙◌, subst, inl, inr, Option, None, Some, append_assoc, append-nil}
 use Rattle.std.proofs.KnownBytes.{Consumes-nil, Consumes-trans, Consumes-kept, Appends-nil, Appends-trans, prepend_known-nil}
 use Rattle.std.specs.Io.KnownBytes.{Consumes, Appends, Keeps, IsAtEnd, prepend_known}
-use Rattle.scm_sessions.specs.declared.reading.Cut.TheVariants.{Whole, Last, End}
-use Rattle.scm_sessions.specs.Lines.{Line, lines_of, whole_lines_of, HasNoFeed}
+use Rattle.scm_sessions.specs.declared.reading.Cut.TheVariants.{Whole, Last}
+use Rattle.scm_sessions.specs.Lines.{Line, whole_lines_of, HasNoFeed}
 use Rattle.scm_sessions.specs.Asking.{asked_by}
 use Rattle.scm_sessions.specs.Ports.{AppendsPart}
 use Rattle.scm_sessions.specs.Reading.{TakesLine}

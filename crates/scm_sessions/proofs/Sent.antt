@@ -1,8 +1,8 @@
 -- What is sent in parts is sent whole.
-use Rattle.std.proofs.Common.{◌≡◌, ℕ, ◌+◌, ◌-◌, List, [], ◌++◌, length, take, drop, refl, sym, ap, ◌∙◌, subst, Option, Bool, true, false, append_assoc, append-nil, take-append-drop, ◌<◌, ◌∷◌, get_or, flat_map}
+use Rattle.std.proofs.Common.{◌≡◌, ℕ, ◌+◌, ◌-◌, List, [], ◌++◌, length, take, drop, refl, sym, ap, ◌∙◌, subst, Option, Bool, true, false, append_assoc, take-append-drop, ◌<◌, ◌∷◌, get_or, flat_map}
 use Rattle.std.proofs.lemmas.List.{take_rest, take_more, flat_map_more}
 use Rattle.std.proofs.Math.Seq.{take-add}
-use Rattle.std.proofs.KnownBytes.{Appends-trans, Appends-kept, Appends-nil, Keeps-refl, Keeps-trans}
+use Rattle.std.proofs.KnownBytes.{Appends-trans, Appends-kept, Keeps-trans}
 use Rattle.std.specs.Io.KnownBytes.{Appends, Keeps}
 use Rattle.scm_sessions.specs.Ports.{AppendsPart, Sends}
 
@@ -31,10 +31,6 @@ AppendsPart-after {a} {b} {c} {t} s whole part = record {
   appended = Appends-trans a b c s part.front whole part.appended;
 }
 
--- nothing went out
-pub AppendsPart-none : (a : Option (List ℕ)) (s : List ℕ) → AppendsPart a a s
-AppendsPart-none a s = record { front = []; rest = s; is_text = refl; appended = Appends-nil a }
-
 -- the first i bytes went out, and then nothing
 pub AppendsPart-taken : (a b c : Option (List ℕ)) (xs : List ℕ) (i : ℕ) → Appends a b (take i xs) → Keeps b c → AppendsPart a c xs
 AppendsPart-taken a b c xs i before kept = record {
@@ -43,10 +39,6 @@ AppendsPart-taken a b c xs i before kept = record {
   is_text = sym (take-append-drop i xs);
   appended = Appends-kept a b c (take i xs) before kept;
 }
-
--- all of a text is a beginning of it
-pub AppendsPart-whole : {a b : Option (List ℕ)} (s : List ℕ) → Appends a b s → AppendsPart a b s
-AppendsPart-whole {a} {b} s whole = record { front = s; rest = []; is_text = sym (append-nil s); appended = whole }
 
 -- one more piece, where no call before it had failed
 sends-good : (a b c : Option (List ℕ)) (p r : Bool) (s t : List ℕ) → Sends a p b false s → Sends b false c r t → Sends a p c r (s ++ t)
@@ -73,15 +65,6 @@ sends-both a b c p true r s t first second = sends-failed a b c p r s t first se
 -- one text, and then another
 pub Sends-trans : {a b c : Option (List ℕ)} {p q r : Bool} {s t : List ℕ} → Sends a p b q s → Sends b q c r t → Sends a p c r (s ++ t)
 Sends-trans {a} {b} {c} {p} {q} {r} {s} {t} first second = sends-both a b c p q r s t first second
-
--- no text
-pub Sends-nil : (a : Option (List ℕ)) (p : Bool) → Sends a p a p []
-Sends-nil a p = record {
-  whole = λ _. Appends-nil a;
-  part = λ had has. AppendsPart-none a [];
-  kept = λ _. Keeps-refl a;
-  stays = λ had. had;
-}
 
 -- the same text, written in another way
 pub Sends-same : {a b : Option (List ℕ)} {p q : Bool} {s t : List ℕ} → Sends a p b q s → s ≡ t → Sends a p b q t

@@ -1,16 +1,18 @@
 -- What a line of a script asks. This project's profile.
-use Rattle.std.specs.Prelude.{ℕ, List, [], ◌∷◌, length, take, drop, codes, Bool, false, ◌&&◌, ◌==◌, ◌+◌, if◌then◌else◌, Option, None, Some, position}
+use Rattle.std.specs.Prelude.{ℕ, List, [], ◌∷◌, take, drop, Bool, false, ◌&&◌, ◌==◌, ◌+◌, if◌then◌else◌, Option, None, Some, position}
 use Rattle.std.specs.Option.{option_and_then, option_map, option_map_or}
-use Rattle.std.specs.Cmp.Lexicographic.{pointwise}
 use Rattle.scm_cells.specs.declared.width.Width.{Width}
 use Rattle.scm_cells.specs.declared.width.Width.TheVariants.{W, D}
 use Rattle.scm_cells.specs.Names.{is_name}
 use Rattle.scm_cells.specs.Numbers.{count_of_word, number_of_word}
 use Rattle.scm_lowering.specs.Accesses.{access_of_words}
 use Rattle.scm_book.specs.declared.call.Decl.{Decl}
-use Rattle.scm_book.specs.Calls.{CallData, opens, claims, reports, shows, asks}
+use Rattle.scm_book.specs.Calls.{CallData, opens, claims, releases, reports, sets_mark, goes_back, raises, asks, asks_why, shows, lists, closes}
+use Rattle.scm_sessions.specs.declared.commands.Command.{Command}
+use Rattle.scm_sessions.specs.declared.commands.Command.TheVariants.{OpenTrace, ClaimProcess, ReleaseProcess, Report, SetMark, GoBack, RaiseBudget, Ask, Why, ShowOps, ListTraces, CloseTrace}
 use Rattle.scm_sessions.specs.Lines.{Line, too_long, text}
-use Rattle.scm_sessions.specs.Words.{words_of}
+use Rattle.scm_sessions.specs.Words.{words_of, name_of_word}
+use Rattle.scm_sessions.specs.Commands.{command_of_word}
 
 pub data Asked : Type 0 where
   -- no reply
@@ -19,10 +21,6 @@ pub data Asked : Type 0 where
   bad : Option (List ℕ) → Asked
   -- a call of the session of this name
   good : List ℕ → CallData → Asked
-
--- whether a word is this text
-abbrev pub is_word : List ℕ → List ℕ → Bool
-is_word = pointwise ◌==◌
 
 -- ---- open T procs budget DECL ..
 
@@ -56,12 +54,7 @@ open_of_words (trace ∷ procs ∷ budget ∷ words) =
     else None
 open_of_words _ = None
 
--- ---- claim T p, do T p ACCESS, show T p, ask T
-
-abbrev pub claim_of_words : List (List ℕ) → Option CallData
-claim_of_words (trace ∷ process ∷ []) =
-    if is_name trace then option_map (λ p. claims trace p) (count_of_word process) else None
-claim_of_words _ = None
+-- ---- do T p ACCESS
 
 abbrev pub report_of_words : List (List ℕ) → Option CallData
 report_of_words (trace ∷ process ∷ words) =
@@ -70,25 +63,84 @@ report_of_words (trace ∷ process ∷ words) =
     else None
 report_of_words _ = None
 
+-- ---- claim T p, release T p, back T m, raise T n, show T p
+
+-- a trace's name and a count
+abbrev pub named_count : List (List ℕ) → Option (List ℕ × ℕ)
+named_count (trace ∷ count ∷ []) =
+    if is_name trace then option_map (λ n. (trace, n)) (count_of_word count) else None
+named_count _ = None
+
+abbrev pub claim_of_words : List (List ℕ) → Option CallData
+claim_of_words words = option_map (λ named. claims named.0 named.1) (named_count words)
+
+abbrev pub release_of_words : List (List ℕ) → Option CallData
+release_of_words words = option_map (λ named. releases named.0 named.1) (named_count words)
+
+abbrev pub back_of_words : List (List ℕ) → Option CallData
+back_of_words words = option_map (λ named. goes_back named.0 named.1) (named_count words)
+
+abbrev pub raise_of_words : List (List ℕ) → Option CallData
+raise_of_words words = option_map (λ named. raises named.0 named.1) (named_count words)
+
 abbrev pub show_of_words : List (List ℕ) → Option CallData
-show_of_words (trace ∷ process ∷ []) =
-    if is_name trace then option_map (λ p. shows trace p) (count_of_word process) else None
-show_of_words _ = None
+show_of_words words = option_map (λ named. shows named.0 named.1) (named_count words)
+
+-- ---- mark T, close T
+
+-- a trace's name alone
+abbrev pub named_alone : List (List ℕ) → Option (List ℕ)
+named_alone (trace ∷ []) = name_of_word trace
+named_alone _ = None
+
+abbrev pub mark_of_words : List (List ℕ) → Option CallData
+mark_of_words words = option_map sets_mark (named_alone words)
+
+abbrev pub close_of_words : List (List ℕ) → Option CallData
+close_of_words words = option_map closes (named_alone words)
+
+-- ---- ask T, ask T m, why T, why T m
+
+-- a trace's name, and perhaps a mark
+abbrev pub named_mark : List (List ℕ) → Option (List ℕ × Option ℕ)
+named_mark (trace ∷ []) = if is_name trace then Some (trace, None) else None
+named_mark (trace ∷ mark ∷ []) =
+    if is_name trace then option_map (λ m. (trace, Some m)) (count_of_word mark) else None
+named_mark _ = None
 
 abbrev pub ask_of_words : List (List ℕ) → Option CallData
-ask_of_words (trace ∷ []) = if is_name trace then Some (asks trace) else None
-ask_of_words _ = None
+ask_of_words words = option_map (λ named. asks named.0 named.1) (named_mark words)
+
+abbrev pub why_of_words : List (List ℕ) → Option CallData
+why_of_words words = option_map (λ named. asks_why named.0 named.1) (named_mark words)
+
+-- ---- list
+
+abbrev pub list_of_words : List (List ℕ) → Option CallData
+list_of_words [] = Some lists
+list_of_words _ = None
+
+-- ---- every call
+
+-- the call of a command with these words after it
+abbrev pub call_of : Command → List (List ℕ) → Option CallData
+call_of OpenTrace words = open_of_words words
+call_of ClaimProcess words = claim_of_words words
+call_of ReleaseProcess words = release_of_words words
+call_of Report words = report_of_words words
+call_of SetMark words = mark_of_words words
+call_of GoBack words = back_of_words words
+call_of RaiseBudget words = raise_of_words words
+call_of Ask words = ask_of_words words
+call_of Why words = why_of_words words
+call_of ShowOps words = show_of_words words
+call_of ListTraces words = list_of_words words
+call_of CloseTrace words = close_of_words words
 
 -- the call that the words after the session's name are
 abbrev pub call_of_words : List (List ℕ) → Option CallData
 call_of_words [] = None
-call_of_words (command ∷ words) =
-    if is_word command (codes "open") then open_of_words words
-    else (if is_word command (codes "claim") then claim_of_words words
-    else (if is_word command (codes "do") then report_of_words words
-    else (if is_word command (codes "show") then show_of_words words
-    else (if is_word command (codes "ask") then ask_of_words words
-    else None))))
+call_of_words (word ∷ words) = option_and_then (λ command. call_of command words) (command_of_word word)
 
 abbrev pub asked_by_words : List (List ℕ) → Asked
 asked_by_words [] = nothing

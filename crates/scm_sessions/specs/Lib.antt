@@ -2,9 +2,11 @@ pub mod Ports
 pub mod Lines
 pub mod Reading
 pub mod Words
+pub mod Commands
 pub mod Asking
 pub mod Replies
 pub mod Script
+pub mod JournalText
 pub use Rattle.scm_sequences.specs.Refusals
 pub use Rattle.scm_cells.specs.Names
 pub use Rattle.scm_cells.specs.Numbers
@@ -12,3 +14,5 @@ pub use Rattle.scm_lowering.specs.Accesses
 pub use Rattle.scm_book.specs.Calls
 pub use Rattle.scm_book.specs.Machine
 pub use Rattle.scm_book.specs.Steps
+pub use Rattle.scm_book.specs.Journal
+pub use Rattle.scm_frontier.specs.Situated

@@ -1,15 +1,20 @@
 -- The text of a reply. This project's profile.
-use Rattle.std.specs.Prelude.{ℕ, List, [], ◌∷◌, ◌++◌, length, codes, decimal, Option, None, Some, unwrap_or, flat_map}
+use Rattle.std.specs.Prelude.{ℕ, ◌==◌, if◌then◌else◌, List, [], ◌∷◌, ◌++◌, length, map, codes, decimal, Option, None, Some, unwrap_or, flat_map}
 use Rattle.scm_sequences.specs.declared.op.Op.{Op}
 use Rattle.scm_sequences.specs.declared.op.Op.TheVariants.{R, W, Rw}
-use Rattle.scm_book.specs.declared.reply.Shown.{Shown}
 use Rattle.scm_sequences.specs.Refusals.{refusal_number, refusal_text}
+use Rattle.scm_frontier.specs.Situated.{Situated}
+use Rattle.scm_book.specs.declared.reply.Shown.{Shown}
+use Rattle.scm_book.specs.Calls.{ReplyData, reply_data, done, marked, consistent, inconsistent, undecided, because, ops, listed, refused}
 use Rattle.scm_sessions.specs.declared.replies.Answer.{Answer}
-use Rattle.scm_book.specs.Calls.{ReplyData, reply_data, done, consistent, inconsistent, undecided, ops, refused}
+
+-- a space and a word
+abbrev pub spaced_word : List ℕ → List ℕ
+spaced_word word = 32 ∷ word
 
 -- a space and a number
 abbrev pub spaced : ℕ → List ℕ
-spaced n = 32 ∷ decimal n
+spaced n = spaced_word (decimal n)
 
 -- an operation, with a space before it: its letters, the name of its cell, and its values
 abbrev pub operation_text : List ℕ → Op → List ℕ
@@ -20,12 +25,34 @@ operation_text cell (Rw c d e) = codes " RW " ++ cell ++ spaced d ++ spaced e
 abbrev pub shown_text : Shown → List ℕ
 shown_text shown = operation_text shown.cell shown.op
 
+-- a comma, unless no item of a list stands before
+abbrev pub comma_after : ℕ → List ℕ
+comma_after earlier = if earlier == 0 then [] else codes ","
+
+-- the first text, then each further one with a comma before it
+abbrev pub joined : List (List ℕ) → List ℕ
+joined [] = []
+joined (first ∷ others) = first ++ flat_map (λ text. 44 ∷ text) others
+
+-- what a cell holds, '?' where that is open
+abbrev pub content_text : Option ℕ → List ℕ
+content_text None = codes "?"
+content_text (Some value) = decimal value
+
+-- a situation, with a space before it: its counts, and the contents of its cells
+abbrev pub situation_text : Situated → List ℕ
+situation_text s = codes " " ++ joined (map decimal s.counts) ++ codes "/" ++ joined (map content_text s.contents)
+
 abbrev pub reply_text : ReplyData → List ℕ
 reply_text done = codes "ok"
+reply_text (marked mark) = codes "ok " ++ decimal mark
 reply_text (consistent schedule) = codes "consistent " ++ decimal (length schedule) ++ flat_map spaced schedule
 reply_text inconsistent = codes "inconsistent"
 reply_text undecided = codes "undecided"
+reply_text (because situations) =
+    codes "because " ++ decimal (length situations) ++ flat_map situation_text situations
 reply_text (ops operations) = codes "ops " ++ decimal (length operations) ++ flat_map shown_text operations
+reply_text (listed names) = codes "traces " ++ decimal (length names) ++ flat_map spaced_word names
 reply_text (refused refusal) =
     codes "refused " ++ decimal (refusal_number refusal) ++ codes " " ++ refusal_text refusal
 

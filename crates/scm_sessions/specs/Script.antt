@@ -1,4 +1,4 @@
--- A script run: the machine and the entered names of sessions, line by line. The place of a name is the number of its
+-- A script run: the book and the entered names of sessions, line by line. The place of a name is the number of its
 -- session. This project's profile.
 use Rattle.std.specs.Prelude.{ℕ, ◌≡◌, ◌⊎◌, List, [], ◌∷◌, ◌++◌, length, Bool, not, ◌&&◌, nat_le, if◌then◌else◌, Option, Some, MatchBool}
 use Rattle.std.specs.List.{list_any, position_or_len}
@@ -7,21 +7,20 @@ use Rattle.scm_sequences.specs.declared.refusal.Refusal.TheVariants.{BadLine, No
 use Rattle.scm_sequences.specs.declared.limits.TheConstants.{MOST_SESSIONS}
 use Rattle.scm_cells.specs.Names.{name_eq}
 use Rattle.scm_book.specs.Calls.{CallData, ReplyData, refused}
-use Rattle.scm_book.specs.Machine.{Machine}
-use Rattle.scm_book.specs.Steps.{IsStepOrNoMemory}
+use Rattle.scm_book.specs.Journal.{BookState, IsCall}
 use Rattle.scm_sessions.specs.Lines.{Line, lines_of, whole_lines_of}
-use Rattle.scm_sessions.specs.Asking.{Asked, nothing, bad, good, asked_by, name_in}
+use Rattle.scm_sessions.specs.Asking.{Asked, nothing, bad, good, asked_by}
 use Rattle.scm_sessions.specs.Replies.{reply_line}
 use Rattle.scm_sessions.specs.Ports.{AppendsPart}
 
 pub record ScriptState : Type 0 where
   -- the entered names, in the order of their entry
   pub names : List (List ℕ)
-  pub machine : Machine
+  pub book : BookState
 
--- these names, and this machine
-abbrev pub script_state : List (List ℕ) → Machine → ScriptState
-script_state names machine = record { names = names; machine = machine }
+-- these names, and this book
+abbrev pub script_state : List (List ℕ) → BookState → ScriptState
+script_state names book = record { names = names; book = book }
 
 -- the place of a name among the entered ones, or the next free place
 abbrev pub session_of : List (List ℕ) → List ℕ → ℕ
@@ -38,14 +37,14 @@ with_name names name = if is_entered names name then names else names ++ name �
 abbrev pub is_turned_away : List (List ℕ) → List ℕ → Bool
 is_turned_away names name = not (is_entered names name) && nat_le MOST_SESSIONS (length names)
 
--- a call of the session of this name leads from old to new with this reply: the name is entered and the machine makes
--- a step; or a new name is turned away; or memory was refused, and the machine is as it was (a new name may be entered then or not)
+-- a call of the session of this name leads from old to new with this reply: the name is entered and the book answers the
+-- call; or a new name is turned away; or memory was refused before that, and everything is as it was
 abbrev pub AnswersCall : ScriptState → List ℕ → CallData → ReplyData → ScriptState → Type 0
 AnswersCall old name call reply new =
     MatchBool (is_turned_away old.names name)
     ((reply ≡ refused TooManySessions) × (new ≡ old))
     ((new.names ≡ with_name old.names name)
-    × IsStepOrNoMemory old.machine (session_of old.names name) call reply new.machine)
+    × IsCall old.book (session_of old.names name) call reply new.book)
     ⊎ ((reply ≡ refused NoMemory) × (new ≡ old))
 
 -- a line that asks this leads from old to new and writes this text

@@ -3,8 +3,10 @@ ghost use Rattle.std.specs.Prelude.{◌≡◌, ◌≢◌, ◌⊎◌, ℕ, List, 
 ghost use Rattle.scm_sequences.specs.declared.refusal.Refusal.TheVariants.{BadLine, NoMemory};
 ghost use Rattle.scm_book.specs.Calls.{CallData, call_data};
 ghost use Rattle.scm_sessions.specs.Lines.{text};
-ghost use Rattle.scm_sessions.specs.Asking.{is_word as is_same_word, nothing, good, asked_by, is_comment as is_comment_text, open_of_words, claim_of_words, report_of_words, show_of_words, ask_of_words, call_of_words};
+ghost use Rattle.scm_sessions.specs.Asking.{nothing, good, asked_by, is_comment as is_comment_text, open_of_words, report_of_words, claim_of_words, release_of_words, back_of_words, raise_of_words, show_of_words, mark_of_words, close_of_words, ask_of_words, why_of_words, list_of_words, call_of, call_of_words};
 
+use crate::arguments::{read_name_alone, read_name_and_count, read_name_and_mark};
+use crate::commands::{Command, read_command};
 use crate::declarations::read_declarations;
 use crate::words::{first_word, words};
 use scm_book::Call;
@@ -12,13 +14,6 @@ use scm_cells::{Name, read_count};
 use scm_lowering::read_access;
 use scm_sequences::Refusal;
 use std::alloc::Global;
-
-/// Whether a word is this text.
-fn is_word(word: &[u8], text: &str) -> bool
-    ensures { result ≡ is_same_word word.now text.now }
-{
-    word == text.as_bytes()
-}
 
 /// `T procs budget DECL ..`
 fn read_open(alloc: Global, words: &[&[u8]]) -> Result<Call, Refusal>
@@ -45,19 +40,6 @@ fn read_open(alloc: Global, words: &[&[u8]]) -> Result<Call, Refusal>
     })
 }
 
-/// `T p`
-fn read_claim(words: &[&[u8]]) -> Option<Call>
-    ensures { option_map call_data result ≡ claim_of_words (map (λ word. word.now) words.now) }
-{
-    let [trace, process] = words else {
-        return None;
-    };
-    Some(Call::ClaimProcess {
-        name: Name::read(trace)?,
-        process: read_count(process)?,
-    })
-}
-
 /// `T p ACCESS`
 fn read_report(words: &[&[u8]]) -> Option<Call>
     ensures { option_map call_data result ≡ report_of_words (map (λ word. word.now) words.now) }
@@ -73,28 +55,109 @@ fn read_report(words: &[&[u8]]) -> Option<Call>
 }
 
 /// `T p`
+fn read_claim(words: &[&[u8]]) -> Option<Call>
+    ensures { option_map call_data result ≡ claim_of_words (map (λ word. word.now) words.now) }
+{
+    let (name, process) = read_name_and_count(words)?;
+    Some(Call::ClaimProcess { name, process })
+}
+
+/// `T p`
+fn read_release(words: &[&[u8]]) -> Option<Call>
+    ensures { option_map call_data result ≡ release_of_words (map (λ word. word.now) words.now) }
+{
+    let (name, process) = read_name_and_count(words)?;
+    Some(Call::ReleaseProcess { name, process })
+}
+
+/// `T m`
+fn read_back(words: &[&[u8]]) -> Option<Call>
+    ensures { option_map call_data result ≡ back_of_words (map (λ word. word.now) words.now) }
+{
+    let (name, mark) = read_name_and_count(words)?;
+    Some(Call::GoBack { name, mark })
+}
+
+/// `T n`
+fn read_raise(words: &[&[u8]]) -> Option<Call>
+    ensures { option_map call_data result ≡ raise_of_words (map (λ word. word.now) words.now) }
+{
+    let (name, budget) = read_name_and_count(words)?;
+    Some(Call::RaiseBudget { name, budget })
+}
+
+/// `T p`
 fn read_show(words: &[&[u8]]) -> Option<Call>
     ensures { option_map call_data result ≡ show_of_words (map (λ word. word.now) words.now) }
 {
-    let [trace, process] = words else {
-        return None;
-    };
-    Some(Call::ShowOps {
-        name: Name::read(trace)?,
-        process: read_count(process)?,
-    })
+    let (name, process) = read_name_and_count(words)?;
+    Some(Call::ShowOps { name, process })
 }
 
 /// `T`
+fn read_mark(words: &[&[u8]]) -> Option<Call>
+    ensures { option_map call_data result ≡ mark_of_words (map (λ word. word.now) words.now) }
+{
+    let name = read_name_alone(words)?;
+    Some(Call::SetMark { name })
+}
+
+/// `T`
+fn read_close(words: &[&[u8]]) -> Option<Call>
+    ensures { option_map call_data result ≡ close_of_words (map (λ word. word.now) words.now) }
+{
+    let name = read_name_alone(words)?;
+    Some(Call::CloseTrace { name })
+}
+
+/// `T` or `T m`
 fn read_ask(words: &[&[u8]]) -> Option<Call>
     ensures { option_map call_data result ≡ ask_of_words (map (λ word. word.now) words.now) }
 {
-    let [trace] = words else {
-        return None;
+    let (name, mark) = read_name_and_mark(words)?;
+    Some(Call::Ask { name, mark })
+}
+
+/// `T` or `T m`
+fn read_why(words: &[&[u8]]) -> Option<Call>
+    ensures { option_map call_data result ≡ why_of_words (map (λ word. word.now) words.now) }
+{
+    let (name, mark) = read_name_and_mark(words)?;
+    Some(Call::Why { name, mark })
+}
+
+/// No further word.
+fn read_list(words: &[&[u8]]) -> Option<Call>
+    ensures { option_map call_data result ≡ list_of_words (map (λ word. word.now) words.now) }
+{
+    if words.is_empty() {
+        Some(Call::ListTraces)
+    } else {
+        None
+    }
+}
+
+/// The call of a command with these words after it. Refused `BadLine`, or `NoMemory`.
+fn read_arguments(alloc: Global, command: Command, words: &[&[u8]]) -> Result<Call, Refusal>
+    ensures ok { IfOk result (λ call. call_of command (map (λ word. word.now) words.now) ≡ Some (call_data call)) }
+    ensures err { IfErr result (λ refusal.
+        ((refusal ≡ BadLine) × (call_of command (map (λ word. word.now) words.now) ≡ None)) ⊎ (refusal ≡ NoMemory)) }
+{
+    let call = match command {
+        Command::OpenTrace => return read_open(alloc, words),
+        Command::ClaimProcess => read_claim(words),
+        Command::ReleaseProcess => read_release(words),
+        Command::Report => read_report(words),
+        Command::SetMark => read_mark(words),
+        Command::GoBack => read_back(words),
+        Command::RaiseBudget => read_raise(words),
+        Command::Ask => read_ask(words),
+        Command::Why => read_why(words),
+        Command::ShowOps => read_show(words),
+        Command::ListTraces => read_list(words),
+        Command::CloseTrace => read_close(words),
     };
-    Some(Call::Ask {
-        name: Name::read(trace)?,
-    })
+    call.ok_or(Refusal::BadLine)
 }
 
 /// The call that the words after the session's name are. Refused `BadLine`, or `NoMemory`.
@@ -103,24 +166,13 @@ fn read_call(alloc: Global, words: &[&[u8]]) -> Result<Call, Refusal>
     ensures err { IfErr result (λ refusal.
         ((refusal ≡ BadLine) × (call_of_words (map (λ word. word.now) words.now) ≡ None)) ⊎ (refusal ≡ NoMemory)) }
 {
-    let [command, arguments @ ..] = words else {
+    let [word, arguments @ ..] = words else {
         return Err(Refusal::BadLine);
     };
-    if is_word(command, "open") {
-        return read_open(alloc, arguments);
-    }
-    let call = if is_word(command, "claim") {
-        read_claim(arguments)
-    } else if is_word(command, "do") {
-        read_report(arguments)
-    } else if is_word(command, "show") {
-        read_show(arguments)
-    } else if is_word(command, "ask") {
-        read_ask(arguments)
-    } else {
-        None
+    let Some(command) = read_command(word) else {
+        return Err(Refusal::BadLine);
     };
-    call.ok_or(Refusal::BadLine)
+    read_arguments(alloc, command, arguments)
 }
 
 /// Whether a line is a comment.

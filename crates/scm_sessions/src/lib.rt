@@ -1,22 +1,27 @@
 //! Scripts: what their lines ask of a book, the replies as text, and the run from bytes to bytes.
 #![tactic(auto)]
 
+mod arguments;
 mod calls;
+mod commands;
 mod declarations;
 #[cfg(test)]
 mod fakes;
 mod fault;
+mod journal;
 mod port;
 mod reading;
 mod replies;
 mod run;
 mod sessions;
 mod shown;
+mod situations;
 mod words;
 mod writing;
 
 pub use calls::read_line;
 pub use fault::RunFault;
+pub use journal::write_journal;
 pub use port::Port;
 pub use replies::write_reply;
 pub use run::run_script;

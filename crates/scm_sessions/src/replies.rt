@@ -1,6 +1,6 @@
 //! The text of replies.
 ghost use Rattle.std.specs.Prelude.{◌≡◌, codes, false, is_err, option_copied, unwrap_or, IfErr};
-ghost use Rattle.scm_book.specs.Calls.{reply_data, consistent, refused};
+ghost use Rattle.scm_book.specs.Calls.{reply_data, marked, consistent, listed, refused};
 ghost use Rattle.scm_sessions.specs.Ports.{inner_of, has_failed, reads_of, Writes, Sends};
 ghost use Rattle.scm_sessions.specs.Replies.{reply_text, reply_line};
 
@@ -36,7 +36,28 @@ impl<W: Write> Port<W> {
     {
         self.put(b"consistent ");
         self.put_number(schedule.len() as u64);
-        self.put_spaced(schedule);
+        self.put_numbers(schedule);
+    }
+
+    /// Puts the number of a mark that was set.
+    fn put_mark(&mut self, mark: u64)
+        ensures bytes { Sends (W.contents (inner_of self.old)) (has_failed self.old)
+            (W.contents (inner_of self.new)) (has_failed self.new) (reply_text (marked mark)) }
+        ensures reads { reads_of self.new ≡ reads_of self.old }
+    {
+        self.put(b"ok ");
+        self.put_number(mark);
+    }
+
+    /// Puts the reply that lists the names of the open traces.
+    fn put_traces(&mut self, names: &[Name])
+        ensures bytes { Sends (W.contents (inner_of self.old)) (has_failed self.old)
+            (W.contents (inner_of self.new)) (has_failed self.new) (reply_text (listed names.now)) }
+        ensures reads { reads_of self.new ≡ reads_of self.old }
+    {
+        self.put(b"traces ");
+        self.put_number(names.len() as u64);
+        self.put_names(names);
     }
 
     /// Puts a refusal: its number and its words.
@@ -52,17 +73,20 @@ impl<W: Write> Port<W> {
     }
 
     /// Puts the text of a reply.
-    fn put_reply(&mut self, reply: &Reply)
+    pub(crate) fn put_reply(&mut self, reply: &Reply)
         ensures bytes { Sends (W.contents (inner_of self.old)) (has_failed self.old)
             (W.contents (inner_of self.new)) (has_failed self.new) (reply_text (reply_data reply.now)) }
         ensures reads { reads_of self.new ≡ reads_of self.old }
     {
         match reply {
             Reply::Done => self.put(b"ok"),
+            Reply::MarkSet(mark) => self.put_mark(*mark),
             Reply::Consistent(schedule) => self.put_consistent(schedule),
             Reply::Inconsistent => self.put(b"inconsistent"),
             Reply::Undecided => self.put(b"undecided"),
+            Reply::Because(situations) => self.put_refutation(situations),
             Reply::Ops(operations) => self.put_operations(operations),
+            Reply::Traces(names) => self.put_traces(names),
             Reply::Refused(refusal) => self.put_refused(*refusal),
         }
     }

@@ -4,6 +4,8 @@ ghost use Rattle.scm_sessions.specs.Lines.{line_given};
 ghost use Rattle.scm_sessions.specs.Asking.{asked_by};
 ghost use Rattle.scm_sessions.specs.Ports.{inner_of, has_failed, Writes};
 ghost use Rattle.scm_sessions.specs.Reading.{unread_of};
+ghost use Rattle.scm_book.specs.Journal.{IsLegalBook};
+ghost use Rattle.scm_sessions.specs.JournalText.{AreNamed};
 ghost use Rattle.scm_sessions.specs.Script.{script_state, AnswersLine, RunsWhole, RunsWholeLines, RunsPart};
 
 use crate::reading::{Cut, LineReader};
@@ -86,13 +88,15 @@ pub fn run_script<R: Read, W: Write>(
     requires writes { has_failed writer.old ≡ false }
     ensures ok { IfOk result (λ ended. RunsWhole (R.remaining (inner_of reader.old)) (R.remaining (inner_of reader.new))
         (W.contents (inner_of writer.old)) (W.contents (inner_of writer.new))
-        (script_state [] book.machine) (script_state ended.1.items ended.0.machine)) }
+        (script_state [] book) (script_state ended.1.items ended.0)) }
+    ensures named { IfOk result (λ ended. book.journal ≡ [] → AreNamed ended.1.items ended.0.journal) }
+    ensures legal { IfOk result (λ ended. IsLegalBook ended.0) }
     ensures read_failed { IsErrOf result RunFault.ReadFailed →
         RunsWholeLines (R.remaining (inner_of reader.old)) (R.remaining (inner_of reader.new))
-        (W.contents (inner_of writer.old)) (W.contents (inner_of writer.new)) (script_state [] book.machine) }
+        (W.contents (inner_of writer.old)) (W.contents (inner_of writer.new)) (script_state [] book) }
     ensures write_failed { IsErrOf result RunFault.WriteFailed →
         RunsPart (R.remaining (inner_of reader.old)) (R.remaining (inner_of reader.new))
-        (W.contents (inner_of writer.old)) (W.contents (inner_of writer.new)) (script_state [] book.machine) }
+        (W.contents (inner_of writer.old)) (W.contents (inner_of writer.new)) (script_state [] book) }
     ensures reader_failed { IsErrOf result RunFault.ReadFailed ↔ (has_failed reader.new ≡ true) }
     ensures writer_failed { IsErrOf result RunFault.WriteFailed ↔ (has_failed writer.new ≡ true) }
     ensures no_memory { IsErrOf result RunFault.NoMemory →

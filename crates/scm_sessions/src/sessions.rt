@@ -3,6 +3,7 @@ ghost use Rattle.std.specs.Prelude.{◌≡◌, ◌≢◌, ◌⊎◌, ◌≤◌, 
 ghost use Rattle.scm_sequences.specs.declared.refusal.Refusal.TheVariants.{NoMemory, TooManySessions};
 ghost use Rattle.scm_sequences.specs.declared.limits.TheConstants.{MOST_SESSIONS};
 ghost use Rattle.scm_book.specs.Calls.{call_data, reply_data};
+ghost use Rattle.scm_book.specs.Journal.{IsLegalBook};
 ghost use Rattle.scm_sessions.specs.Lines.{line_given, text};
 ghost use Rattle.scm_sessions.specs.Asking.{nothing, asked_by, name_in};
 ghost use Rattle.scm_sessions.specs.Replies.{reply_line, answer_text};
@@ -32,7 +33,7 @@ impl Model for Sessions {
 
     ghost Value = { ScriptState };
 
-    ghost view = { λ s. script_state s.names.keys s.book.machine };
+    ghost view = { λ s. script_state s.names.keys s.book };
 
     ghost invariant = { λ s. length s.names.keys ≤ MOST_SESSIONS };
 }
@@ -40,7 +41,7 @@ impl Model for Sessions {
 impl Sessions {
     /// No session has entered.
     pub(crate) fn new(alloc: Global, book: Book) -> Sessions
-        ensures { result ≡ script_state [] book.machine }
+        ensures { result ≡ script_state [] book }
     {
         Sessions {
             names: IndexSet::new(alloc),
@@ -63,7 +64,7 @@ impl Sessions {
         ensures err { IfErr result (λ refusal.
             ((refusal ≡ TooManySessions) × (is_turned_away self.old.names name ≡ true)) ⊎ (refusal ≡ NoMemory)) }
         ensures unchanged { OnErr result (self.new.names ≡ self.old.names) }
-        ensures machine { self.new.machine ≡ self.old.machine }
+        ensures book { self.new.book ≡ self.old.book }
     {
         if self.turns_away(&name) {
             return Err(Refusal::TooManySessions);
@@ -120,7 +121,8 @@ impl Sessions {
     pub(crate) fn into_parts(self, mut room: Vec<Name>) -> (Book, Vec<Name>)
         requires empty { room.items ≡ [] }
         requires fits { MOST_SESSIONS ≤ vec_capacity room }
-        ensures book { result.0.machine ≡ self.machine }
+        ensures book { result.0 ≡ self.book }
+        ensures legal { IsLegalBook result.0 }
         ensures names { result.1.items ≡ self.names }
     {
         let Sessions { names, book } = self;

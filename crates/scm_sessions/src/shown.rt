@@ -11,16 +11,6 @@ use scm_sequences::Op;
 use std::io::Write;
 
 impl<W: Write> Port<W> {
-    /// Puts a space and a number.
-    fn put_value(&mut self, value: u64)
-        ensures bytes { Sends (W.contents (inner_of self.old)) (has_failed self.old)
-            (W.contents (inner_of self.new)) (has_failed self.new) (spaced value) }
-        ensures reads { reads_of self.new ≡ reads_of self.old }
-    {
-        self.put(b" ");
-        self.put_number(value);
-    }
-
     /// Puts the letters of an operation, the name of its cell and its first value.
     fn put_labelled(&mut self, letters: &[u8], cell: Name, value: u64)
         ensures bytes { Sends (W.contents (inner_of self.old)) (has_failed self.old)

@@ -23,10 +23,47 @@ fn lines_ask_for_calls(rt: HostRuntime) -> Result<(), Fail> {
         "a claim t 0",
         " a\tclaim  t 1 ",
         "a do t 1 lw x 1",
-        "a ask t",
+        "a show t 0",
+        "a close t",
+        "a list",
+        "a list \t",
     ];
     for line in table {
         assert!(rt; read_line(rt.alloc(), line.as_bytes()).is_ok(), "{line}");
+    }
+    Ok(())
+}
+
+/// The command that a call is made by, and its number where it has one.
+fn numbered(call: &Call) -> (&'static str, Option<u64>) {
+    match call {
+        Call::ReleaseProcess { process, .. } => ("release", Some(*process)),
+        Call::SetMark { .. } => ("mark", None),
+        Call::GoBack { mark, .. } => ("back", Some(*mark)),
+        Call::RaiseBudget { budget, .. } => ("raise", Some(*budget)),
+        Call::Ask { mark, .. } => ("ask", *mark),
+        Call::Why { mark, .. } => ("why", *mark),
+        _ => ("another", None),
+    }
+}
+
+#[test]
+fn numbers_and_marks_are_taken(rt: HostRuntime) -> Result<(), Fail> {
+    let table = [
+        ("a release t 1", ("release", Some(1))),
+        ("a mark t", ("mark", None)),
+        ("a back t 007", ("back", Some(7))),
+        ("a raise t 18446744073709551616", ("raise", Some(u64::MAX))),
+        ("a ask t", ("ask", None)),
+        ("a ask t 0", ("ask", Some(0))),
+        ("a why t", ("why", None)),
+        ("a why t 2", ("why", Some(2))),
+    ];
+    for (line, wanted) in table {
+        let (_, call) = read_line(rt.alloc(), line.as_bytes())
+            .ok()
+            .ok_or("refused")?;
+        assert_eq!(rt; numbered(&call), wanted, "{line}");
     }
     Ok(())
 }
@@ -43,6 +80,24 @@ fn bad_lines_are_refused(rt: HostRuntime) {
         "a ask",
         "a ask t t",
         "a ask T",
+        "a ask t 0 1",
+        "a ask t -1",
+        "a why",
+        "a why t 0x1",
+        "a why t 1 1",
+        "a release t",
+        "a release t 0 0",
+        "a mark",
+        "a mark t 0",
+        "a back t",
+        "a back t 0 0",
+        "a raise t",
+        "a raise t 1 1",
+        "a list t",
+        "a close",
+        "a close t t",
+        "a show t",
+        "a show t 0 0",
         "a claim t",
         "a claim t 0 0",
         "a claim t -1",

@@ -1,6 +1,39 @@
+ghost use Rattle.std.specs.Prelude.{◌<◌};
+ghost use Rattle.scm_sequences.specs.Ops.{cell_of};
+
 use super::*;
 use crate::fakes::{StepWriter, Wire};
+use scm_frontier::{Situation, Steps};
+use scm_sequences::{NoMemory, Op};
+use std::alloc::Global;
 use std::test::Fail;
+
+/// What is written for a reply.
+fn line_of(alloc: Global, name: Option<&Name>, reply: &Reply) -> Result<Vec<u8>, RunFault> {
+    let wire = Wire::new();
+    let mut port = Port::new(StepWriter {
+        taken: Vec::new(alloc),
+        step: 2,
+        limit: usize::MAX,
+        wire: &wire,
+    });
+    write_reply(&mut port, name, reply)?;
+    Ok(port.into_inner().taken)
+}
+
+/// The situations of a process beside another, before and after its one operation.
+fn refutation(alloc: Global, initials: &[Option<u64>; 2], op: Op) -> Result<Reply, NoMemory>
+    requires { cell_of op < 2 }
+{
+    let start = Situation::start(alloc, initials, 2)?;
+    let after = start.step(0, op, &mut Steps::new())?;
+    let mut situations = Vec::new(alloc);
+    situations.push(start)?;
+    if let Some(after) = after {
+        situations.push(after)?;
+    }
+    Ok(Reply::Because(situations))
+}
 
 #[test]
 fn replies_have_their_text(rt: HostRuntime) -> Result<(), Fail> {
@@ -8,6 +41,7 @@ fn replies_have_their_text(rt: HostRuntime) -> Result<(), Fail> {
     let table = [
         (None, Reply::Done, "? ok\n"),
         (Some(name), Reply::Done, "amy ok\n"),
+        (Some(name), Reply::MarkSet(7), "amy ok 7\n"),
         (
             Some(name),
             Reply::Consistent(Vec::new(rt.alloc())),
@@ -32,15 +66,45 @@ fn replies_have_their_text(rt: HostRuntime) -> Result<(), Fail> {
         ),
     ];
     for (name, reply, wanted) in table {
-        let wire = Wire::new();
-        let mut port = Port::new(StepWriter {
-            taken: Vec::new(rt.alloc()),
-            step: 2,
-            limit: usize::MAX,
-            wire: &wire,
-        });
-        assert_eq!(rt; write_reply(&mut port, name.as_ref(), &reply), Ok(()));
-        assert_eq!(rt; port.into_inner().taken.as_slice(), wanted.as_bytes());
+        let line = line_of(rt.alloc(), name.as_ref(), &reply)?;
+        assert_eq!(rt; line.as_slice(), wanted.as_bytes());
+    }
+    Ok(())
+}
+
+#[test]
+fn refutations_have_their_text(rt: HostRuntime) -> Result<(), Fail> {
+    let write = Op::W { cell: 0, value: 7 };
+    let read = Op::R { cell: 0, value: 5 };
+    let table = [
+        ([Some(0), Some(3)], write, "? because 2 0,0/0,3 1,0/7,3\n"),
+        ([None, Some(3)], write, "? because 2 0,0/?,3 1,0/7,3\n"),
+        ([None, None], read, "? because 2 0,0/?,? 1,0/5,?\n"),
+        ([Some(0), None], read, "? because 1 0,0/0,?\n"),
+    ];
+    for (initials, op, wanted) in table {
+        let reply = refutation(rt.alloc(), &initials, op)?;
+        let line = line_of(rt.alloc(), None, &reply)?;
+        assert_eq!(rt; line.as_slice(), wanted.as_bytes());
+    }
+    let none = Reply::Because(Vec::new(rt.alloc()));
+    let line = line_of(rt.alloc(), None, &none)?;
+    assert_eq!(rt; line.as_slice(), b"? because 0\n".as_slice());
+    Ok(())
+}
+
+#[test]
+fn lists_have_their_text(rt: HostRuntime) -> Result<(), Fail> {
+    let (Some(t), Some(u)) = (Name::read(b"t"), Name::read(b"u-1")) else {
+        return Err("no names".into());
+    };
+    let table = [
+        ([t, u].to_vec(rt.alloc())?, "? traces 2 t u-1\n"),
+        (Vec::new(rt.alloc()), "? traces 0\n"),
+    ];
+    for (names, wanted) in table {
+        let line = line_of(rt.alloc(), None, &Reply::Traces(names))?;
+        assert_eq!(rt; line.as_slice(), wanted.as_bytes());
     }
     Ok(())
 }

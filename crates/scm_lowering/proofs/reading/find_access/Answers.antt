@@ -1,5 +1,5 @@
 -- Fewer than three words, and more than four, stand for nothing.
-use Rattle.std.proofs.Common.{sym, arith, rules}
+use Rattle.std.proofs.Common.{sym, rules}
 use Rattle.scm_lowering.proofs.WordCounts.{access_of_few, access_of_many}
 use Rattle.scm_lowering.proofs.reading.find_access.Goals as goal
 use Rattle.scm_lowering.proofs.reading.find_access.Goals.{in_default-via-then-words-lt3, in_default-via-else-words-lt3+else-words-lt4+else-words-lt5}

@@ -1,5 +1,4 @@
 use Rattle.std.proofs.Common.{rules}
-use Rattle.std.proofs.lemmas.Result.{err_from_is_err_and}
 use Rattle.scm_sessions.proofs.Running.{HasRun-start, HasRun-more, RunsWhole-end, RunsWhole-last, RunsWholeLines-part, RunsPart-whole, RunsPart-last}
 use Rattle.scm_sessions.proofs.run.run_lines.Goals as goal
 

@@ -1,0 +1,140 @@
+"""Feeds generated scripts to the monitor and prints how long it took. Called by bench/run."""
+
+import os
+import platform
+import subprocess
+import sys
+import tempfile
+import time
+
+TRACES = 64
+REPORTS = 1_000_000
+BUDGET = 1_000_000
+SECONDS = 60  # after this a question is given up
+REPEATS = 3  # the best of so many runs counts
+STORES = 9  # of each writer
+WRITERS = range(1, 6)  # 10, 100, .. 100,000 situations
+
+
+def run(program, script, seconds=None):
+    """The replies to a script and the seconds that the run took, or None where it took longer than was given."""
+    with tempfile.TemporaryFile() as source, tempfile.TemporaryFile() as replies:
+        source.write(script)
+        source.seek(0)
+        begin = time.perf_counter()
+        try:
+            ended = subprocess.run([program], stdin=source, stdout=replies, timeout=seconds)
+        except subprocess.TimeoutExpired:
+            return None
+        taken = time.perf_counter() - begin
+        if ended.returncode != 0:
+            sys.exit(f"bench: the program ended with status {ended.returncode}")
+        replies.seek(0)
+        return replies.read().splitlines(), taken
+
+
+def best(program, script, seconds=None):
+    """The replies, and the least time of some runs; one alone where it was long."""
+    least = None
+    for _ in range(REPEATS):
+        ran = run(program, script, seconds)
+        if ran is None:
+            return None
+        replies, taken = ran
+        least = taken if least is None else min(least, taken)
+        if taken > 5:
+            break
+    return replies, least
+
+
+def script_of(lines):
+    return "".join(line + "\n" for line in lines).encode()
+
+
+def opened(trace, procs, cells):
+    declared = " ".join(f"{cell}:w=0" for cell in cells)
+    yield f"a open {trace} {procs} {BUDGET} {declared}"
+    for process in range(procs):
+        yield f"a claim {trace} {process}"
+
+
+def reports():
+    """A million reports, in turn to each of the traces, of two processes each: loads, stores and fetch-and-adds."""
+    accesses = ["sw x 1", "lw x 1", "sw y 0x10", "lw y 16", "amoadd.w x 1 1", "lw x 2", "rw y 16 0", "sw x -1"]
+    for trace in range(TRACES):
+        yield from opened(f"t{trace}", 2, ["x", "y"])
+    for number in range(REPORTS):
+        access = accesses[number // TRACES % len(accesses)]
+        yield f"a do t{number % TRACES} {number // TRACES // len(accesses) % 2} {access}"
+
+
+def forbidden(writers):
+    """Each writer stores to a cell of its own; a reader claims to have seen what nobody stored. (STORES + 1) to the
+    number of writers situations can be reached, and none is whole."""
+    cells = [f"c{writer}" for writer in range(writers)]
+    yield from opened("t", writers + 1, cells)
+    for writer in range(writers):
+        for value in range(1, STORES + 1):
+            yield f"a do t {writer} sw c{writer} {value}"
+    yield f"a do t {writers} lw c0 {STORES + 1}"
+    yield "a ask t"
+
+
+def allowed(writers):
+    """The same, but the reader saw the last store of each writer: consistent, with one operation more for each."""
+    cells = [f"c{writer}" for writer in range(writers)]
+    yield from opened("t", writers + 1, cells)
+    for writer in range(writers):
+        for value in range(1, STORES + 1):
+            yield f"a do t {writer} sw c{writer} {value}"
+    for writer in range(writers):
+        yield f"a do t {writers} lw c{writer} {STORES}"
+    yield "a ask t"
+
+
+def machine():
+    model = platform.processor() or platform.machine()
+    memory = "memory unknown"
+    try:
+        with open("/proc/cpuinfo") as info:
+            names = [line.split(":", 1)[1].strip() for line in info if line.startswith("model name")]
+        model = names[0] if names else model
+        with open("/proc/meminfo") as info:
+            memory = f"{int(info.readline().split()[1]) / 2**20:.0f} GiB"
+    except OSError:
+        pass
+    return f"{model}, {os.cpu_count()} processors, {memory}, {platform.system()} {platform.release()}"
+
+
+def measure_reports(program):
+    lines = list(reports())
+    replies, taken = best(program, script_of(lines))
+    if replies != [b"a ok"] * len(lines):
+        sys.exit("bench: a report was refused")
+    print(f"reports: {REPORTS} lines over {TRACES} traces in {taken:.2f} s: {REPORTS / taken:,.0f} lines a second")
+
+
+def measure_questions(program, title, family, verdict):
+    print(f"\n{title}")
+    print(f"{'writers':>8} {'stores':>7} {'situations':>11} {'seconds':>9} {'situations/s':>13}")
+    for writers in WRITERS:
+        situations = (STORES + 1) ** writers
+        ran = best(program, script_of(family(writers)), SECONDS)
+        if ran is None:
+            print(f"{writers:>8} {STORES:>7} {situations:>11,} more than {SECONDS} s")
+            return
+        replies, taken = ran
+        if not replies[-1].startswith(verdict):
+            sys.exit(f"bench: wrong verdict: {replies[-1][:80]!r}")
+        print(f"{writers:>8} {STORES:>7} {situations:>11,} {taken:>9.3f} {situations / taken:>13,.0f}")
+
+
+def main():
+    program = os.path.abspath(sys.argv[1])
+    print(f"machine: {machine()}")
+    measure_reports(program)
+    measure_questions(program, "questions that are inconsistent: all situations are found", forbidden, b"a inconsistent")
+    measure_questions(program, "questions that are consistent: the writers' situations, and those of the reader", allowed, b"a consistent")
+
+
+main()

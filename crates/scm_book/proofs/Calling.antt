@@ -1,0 +1,73 @@
+-- What each way out of a call is for a book.
+use Rattle.std.proofs.Common.{◌≡◌, ℕ, ◌+◌, ◌<◌, Bool, true, false, List, [], ◌∷◌, ◌++◌, length, map, refl, sym, ap, ◌∙◌, subst, inl, inr, arith}
+use Rattle.std.proofs.lemmas.List.{length-append, map-append}
+use Rattle.std.proofs.lemmas.Bool.{leb-false}
+use Rattle.scm_sequences.specs.declared.refusal.Refusal.TheVariants.{NoMemory, JournalFull}
+use Rattle.scm_sequences.specs.declared.limits.TheConstants.{MOST_ENTRIES}
+use Rattle.scm_book.specs.Calls.{CallData, ReplyData, EntryData, refused}
+use Rattle.scm_book.specs.Machine.{Machine, empty_machine}
+use Rattle.scm_book.specs.Steps.{IsStep, IsStepOrNoMemory}
+use Rattle.scm_book.specs.Changes.{tells_of_change}
+use Rattle.scm_book.specs.Runs.{Answered, IsRun}
+use Rattle.scm_book.specs.Journal.{BookState, IsUnchanged, IsLegalHistory, IsCall, is_full, makes_entry, entered, answered}
+use Rattle.scm_book.proofs.Counting.{AreNumbered-entered}
+use Rattle.scm_book.proofs.Changing.{machine-kept, step-enters}
+
+-- ---- histories
+
+-- a run goes on by a step
+IsRun-more : (old mid new : Machine) (steps : List Answered) (a : Answered) → IsRun old steps mid → IsStep mid a.session a.call a.reply new → IsRun old (steps ++ a ∷ []) new
+IsRun-more old mid new [] a run step = (new, subst (λ m. IsStep m a.session a.call a.reply new) run step, refl)
+IsRun-more old mid new (first ∷ others) a run step = (run.0, run.1, IsRun-more run.0 mid new others a run.2 step)
+
+-- a history goes on by an entry
+pub IsLegalHistory-more : (journal : List EntryData) (old new : Machine) (session : ℕ) (call : CallData) (reply : ReplyData) → is_full journal ≡ false → IsLegalHistory journal old → IsStep old session call reply new
+    → IsLegalHistory (entered journal session call reply) new
+IsLegalHistory-more journal old new session call reply room legal step = record {
+  run =
+      subst (λ steps. IsRun empty_machine steps new) (sym (map-append answered journal _))
+      (IsRun-more empty_machine old new (map answered journal) (record { session = session; call = call; reply = reply }) legal.run step);
+  numbered = AreNumbered-entered journal session call reply legal.numbered;
+  most =
+      let some : length journal < MOST_ENTRIES = leb-false MOST_ENTRIES (length journal) room in
+      let one_more : length (entered journal session call reply) ≡ length journal + 1 = length-append journal _ in
+      omega (arith, one_more, some);
+}
+
+pub IsLegalHistory-same : (journal others : List EntryData) (old new : Machine) → others ≡ journal → new ≡ old → IsLegalHistory journal old → IsLegalHistory others new
+IsLegalHistory-same journal others old new same_journal same_machine legal =
+    subst (λ m. IsLegalHistory others m) (sym same_machine) (subst (λ j. IsLegalHistory j old) (sym same_journal) legal)
+
+-- ---- ways out of a call
+
+-- memory was refused
+pub call-no_memory : (old new : BookState) (session : ℕ) (call : CallData) → is_full old.journal ≡ false → IsUnchanged old new → IsCall old session call (refused NoMemory) new
+call-no_memory old new session call room same = record {
+  full = ((λ is. let no : false ≡ true = ap makes_memory_entry is in cc), (λ is. let no : false ≡ true = sym room ∙ is in cc));
+  step = λ entered. let no : false ≡ true = entered in cc;
+  entry = λ entered. let no : false ≡ true = entered in cc;
+  unchanged = λ _. same;
+} where
+  -- tells the two refusals apart
+  makes_memory_entry : ReplyData → Bool
+  makes_memory_entry (refused JournalFull) = true
+  makes_memory_entry reply = false
+
+-- the machine's reply makes no entry
+pub call-no_entry : (old new : BookState) (session : ℕ) (call : CallData) (reply : ReplyData) → is_full old.journal ≡ false → IsStepOrNoMemory old.machine session call reply new.machine → makes_entry reply ≡ false
+    → new.journal ≡ old.journal → IsCall old session call reply new
+call-no_entry old new session call reply room (inl step) none same = let no : true ≡ false = sym (step-enters old.machine new.machine session call reply step) ∙ none in cc
+call-no_entry old new session call reply room (inr memory) none same =
+    subst (λ r. IsCall old session call r new) (sym memory.0) (call-no_memory old new session call room (record { journal = same; machine = memory.1 }))
+
+-- the machine's reply makes an entry: it is that of a step
+pub step-from_entry : (old new : Machine) (session : ℕ) (call : CallData) (reply : ReplyData) → IsStepOrNoMemory old session call reply new → makes_entry reply ≡ true → IsStep old session call reply new
+step-from_entry old new session call reply (inl step) some = step
+step-from_entry old new session call reply (inr memory) some = let no : false ≡ true = sym (ap makes_entry memory.0) ∙ some in cc
+
+-- a reply that couldn't be copied tells of no change
+pub kept-uncopied : (old new : Machine) (session : ℕ) (call : CallData) (reply : ReplyData) (copied : Bool) → IsStepOrNoMemory old session call reply new → (tells_of_change reply ≡ true → copied ≡ true) → copied ≡ false → new ≡ old
+kept-uncopied old new session call reply copied step light failed = by (tells_of_change reply) refl where
+  by : (tells : Bool) → tells_of_change reply ≡ tells → new ≡ old
+  by true is = let no : true ≡ false = sym (light is) ∙ failed in cc
+  by false is = machine-kept old new session call reply step is

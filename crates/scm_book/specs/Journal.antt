@@ -1,0 +1,67 @@
+-- The journal: each call and its reply, but for those refused for want of memory or since the journal was full. It is a
+-- legal history: a run of the machine from the empty one.
+use Rattle.std.specs.Prelude.{ℕ, ◌≡◌, ◌≤◌, ◌↔◌, ⊤, List, [], ◌∷◌, ◌++◌, length, map, Bool, true, false, nat_le, ◌==◌, count_by}
+use Rattle.scm_sequences.specs.declared.refusal.Refusal.TheVariants.{JournalFull, NoMemory}
+use Rattle.scm_sequences.specs.declared.limits.TheConstants.{MOST_ENTRIES}
+use Rattle.scm_book.specs.Calls.{CallData, ReplyData, refused, EntryData}
+use Rattle.scm_book.specs.Machine.{Machine, empty_machine}
+use Rattle.scm_book.specs.Steps.{IsStep}
+use Rattle.scm_book.specs.Runs.{Answered, IsRun}
+
+-- what contracts see of a book
+pub record BookState : Type 0 where
+  -- the entries, in order
+  pub journal : List EntryData
+  pub machine : Machine
+
+-- how many entries are of this session
+abbrev pub count_of : ℕ → List EntryData → ℕ
+count_of session entries = count_by (λ entry. entry.session == session) entries
+
+-- the journal with one more entry, whose number says how many entries of its session were there before
+abbrev pub entered : List EntryData → ℕ → CallData → ReplyData → List EntryData
+entered journal session call reply =
+    journal ++ record { session = session; number = count_of session journal; call = call; reply = reply } ∷ []
+
+-- so it is of each of these entries, which come after some earlier ones
+abbrev pub AreNumbered : List EntryData → List EntryData → Type 0
+AreNumbered earlier [] = ⊤
+AreNumbered earlier (entry ∷ later) =
+    (entry.number ≡ count_of entry.session earlier) × AreNumbered (earlier ++ entry ∷ []) later
+
+-- who called what, and the reply
+abbrev pub answered : EntryData → Answered
+answered entry = record { session = entry.session; call = entry.call; reply = entry.reply }
+
+-- the entries are a run from the empty machine to this one, each numbered within its session, and no more than the most
+pub record IsLegalHistory (journal : List EntryData) (machine : Machine) : Type 0 where
+  pub run : IsRun empty_machine (map answered journal) machine
+  pub numbered : AreNumbered [] journal
+  pub most : length journal ≤ MOST_ENTRIES
+
+-- the journal ends in the machine
+abbrev pub IsLegalBook : BookState → Type 0
+IsLegalBook book = IsLegalHistory book.journal book.machine
+
+abbrev pub is_full : List EntryData → Bool
+is_full journal = nat_le MOST_ENTRIES (length journal)
+
+-- nothing changed
+pub record IsUnchanged (old new : BookState) : Type 0 where
+  pub journal : new.journal ≡ old.journal
+  pub machine : new.machine ≡ old.machine
+
+-- whether a call that is answered so makes an entry
+abbrev pub makes_entry : ReplyData → Bool
+makes_entry (refused JournalFull) = false
+makes_entry (refused NoMemory) = false
+makes_entry reply = true
+
+-- a session's call with this reply leads from old to new. It is refused for a full journal exactly where the journal is
+-- full. A reply that makes an entry is that of the machine, and this call with its reply stands last in the journal; with
+-- any other nothing changes.
+pub record IsCall (old : BookState) (session : ℕ) (call : CallData) (reply : ReplyData) (new : BookState) : Type 0 where
+  pub full : (reply ≡ refused JournalFull) ↔ (is_full old.journal ≡ true)
+  pub step : makes_entry reply ≡ true → IsStep old.machine session call reply new.machine
+  pub entry : makes_entry reply ≡ true → new.journal ≡ entered old.journal session call reply
+  pub unchanged : makes_entry reply ≡ false → IsUnchanged old new

@@ -1,0 +1,229 @@
+//! The open traces: the machine that a book stands for.
+ghost use Rattle.std.specs.Prelude.{◌≡◌, IfOk};
+ghost use Rattle.scm_book.specs.Calls.{call_data, reply_data, opens, claims, releases, reports, sets_mark, goes_back, raises, asks, asks_why, shows, lists, closes};
+ghost use Rattle.scm_book.specs.Machine.{empty_machine, trace_names};
+ghost use Rattle.scm_book.specs.Steps.{IsStepOrNoMemory};
+
+use crate::open_trace::OpenTrace;
+use crate::{Call, Decl, Reply};
+use indexmap::IndexMap;
+use scm_cells::Name;
+use scm_lowering::Access;
+use scm_sequences::{MOST_TRACES, NoMemory, Refusal};
+use std::alloc::Global;
+use std::marker::Model;
+
+/// The open traces, by name, in the order of their opening. Contracts see the machine.
+///
+/// A session is a number that the caller gives. Each call answers what the machine answers, or `Refused(NoMemory)` with
+/// the machine as it was.
+#[derive(Drop)]
+pub(crate) struct Traces {
+    alloc: Global,
+    traces: IndexMap<Name, OpenTrace>,
+}
+
+impl Model for Traces {
+    ghost use Rattle.scm_book.specs.Machine.{Machine};
+
+    ghost Value = { Machine };
+
+    ghost view = { λ t. record { traces = t.traces.entries } };
+}
+
+impl Traces {
+    /// No traces.
+    pub(crate) fn new(alloc: Global) -> Traces
+        ensures { result ≡ empty_machine }
+    {
+        Traces {
+            alloc,
+            traces: IndexMap::new(alloc),
+        }
+    }
+
+    fn open(&mut self, session: u16, name: Name, procs: u64, budget: u64, cells: &[Decl]) -> Reply
+        ensures { IsStepOrNoMemory self.old session (opens name procs budget cells.now) (reply_data result) self.new }
+    {
+        let trace = match OpenTrace::new(self.alloc, session, procs, budget, cells) {
+            Ok(trace) => trace,
+            Err(refusal) => return Reply::Refused(refusal),
+        };
+        if self.traces.contains_key(&name) {
+            return Reply::Refused(Refusal::NameTaken);
+        }
+        if self.traces.len() >= MOST_TRACES {
+            return Reply::Refused(Refusal::TooManyTraces);
+        }
+        match self.traces.insert(name, trace) {
+            Ok(_) => Reply::Done,
+            Err(_) => Reply::Refused(Refusal::NoMemory),
+        }
+    }
+
+    fn claim(&mut self, session: u16, name: Name, process: u64) -> Reply
+        ensures { IsStepOrNoMemory self.old session (claims name process) (reply_data result) self.new }
+    {
+        let Some(trace) = self.traces.get_mut(&name) else {
+            return Reply::Refused(Refusal::NoSuchTrace);
+        };
+        match trace.claim(session, process) {
+            Ok(()) => Reply::Done,
+            Err(refusal) => Reply::Refused(refusal),
+        }
+    }
+
+    fn release(&mut self, session: u16, name: Name, process: u64) -> Reply
+        ensures { IsStepOrNoMemory self.old session (releases name process) (reply_data result) self.new }
+    {
+        let Some(trace) = self.traces.get_mut(&name) else {
+            return Reply::Refused(Refusal::NoSuchTrace);
+        };
+        match trace.release(session, process) {
+            Ok(()) => Reply::Done,
+            Err(refusal) => Reply::Refused(refusal),
+        }
+    }
+
+    fn report(&mut self, session: u16, name: Name, process: u64, access: &Access) -> Reply
+        ensures { IsStepOrNoMemory self.old session (reports name process access.now) (reply_data result) self.new }
+    {
+        let Some(trace) = self.traces.get_mut(&name) else {
+            return Reply::Refused(Refusal::NoSuchTrace);
+        };
+        match trace.report(session, process, access) {
+            Ok(()) => Reply::Done,
+            Err(refusal) => Reply::Refused(refusal),
+        }
+    }
+
+    fn mark(&mut self, session: u16, name: Name) -> Reply
+        ensures { IsStepOrNoMemory self.old session (sets_mark name) (reply_data result) self.new }
+    {
+        let Some(trace) = self.traces.get_mut(&name) else {
+            return Reply::Refused(Refusal::NoSuchTrace);
+        };
+        match trace.mark(session) {
+            Ok(mark) => Reply::MarkSet(mark),
+            Err(refusal) => Reply::Refused(refusal),
+        }
+    }
+
+    fn back(&mut self, session: u16, name: Name, mark: u64) -> Reply
+        ensures { IsStepOrNoMemory self.old session (goes_back name mark) (reply_data result) self.new }
+    {
+        let Some(trace) = self.traces.get_mut(&name) else {
+            return Reply::Refused(Refusal::NoSuchTrace);
+        };
+        match trace.back(session, mark) {
+            Ok(()) => Reply::Done,
+            Err(refusal) => Reply::Refused(refusal),
+        }
+    }
+
+    fn raise(&mut self, session: u16, name: Name, budget: u64) -> Reply
+        ensures { IsStepOrNoMemory self.old session (raises name budget) (reply_data result) self.new }
+    {
+        let Some(trace) = self.traces.get_mut(&name) else {
+            return Reply::Refused(Refusal::NoSuchTrace);
+        };
+        match trace.raise(session, budget) {
+            Ok(()) => Reply::Done,
+            Err(refusal) => Reply::Refused(refusal),
+        }
+    }
+
+    fn ask(&mut self, session: u16, name: Name, mark: Option<u64>) -> Reply
+        ensures { IsStepOrNoMemory self.old session (asks name mark) (reply_data result) self.new }
+    {
+        let Some(trace) = self.traces.get(&name) else {
+            return Reply::Refused(Refusal::NoSuchTrace);
+        };
+        match trace.ask(self.alloc, mark) {
+            Ok(verdict) => verdict,
+            Err(refusal) => Reply::Refused(refusal),
+        }
+    }
+
+    fn why(&mut self, session: u16, name: Name, mark: Option<u64>) -> Reply
+        ensures { IsStepOrNoMemory self.old session (asks_why name mark) (reply_data result) self.new }
+    {
+        let Some(trace) = self.traces.get(&name) else {
+            return Reply::Refused(Refusal::NoSuchTrace);
+        };
+        match trace.why(self.alloc, mark) {
+            Ok(verdict) => verdict,
+            Err(refusal) => Reply::Refused(refusal),
+        }
+    }
+
+    fn show(&mut self, session: u16, name: Name, process: u64) -> Reply
+        ensures { IsStepOrNoMemory self.old session (shows name process) (reply_data result) self.new }
+    {
+        let Some(trace) = self.traces.get(&name) else {
+            return Reply::Refused(Refusal::NoSuchTrace);
+        };
+        match trace.show(self.alloc, process) {
+            Ok(operations) => Reply::Ops(operations),
+            Err(refusal) => Reply::Refused(refusal),
+        }
+    }
+
+    /// The names of the traces, in the order of their opening.
+    fn names(&self) -> Result<Vec<Name>, NoMemory>
+        ensures { IfOk result (λ names. names.items ≡ trace_names self.now) }
+    {
+        Ok(self.traces.keys().copied().collect(self.alloc)?)
+    }
+
+    fn list(&mut self, session: u16) -> Reply
+        ensures { IsStepOrNoMemory self.old session lists (reply_data result) self.new }
+    {
+        match self.names() {
+            Ok(names) => Reply::Traces(names),
+            Err(NoMemory) => Reply::Refused(Refusal::NoMemory),
+        }
+    }
+
+    fn close(&mut self, session: u16, name: Name) -> Reply
+        ensures { IsStepOrNoMemory self.old session (closes name) (reply_data result) self.new }
+    {
+        let Some(trace) = self.traces.get(&name) else {
+            return Reply::Refused(Refusal::NoSuchTrace);
+        };
+        if let Err(refusal) = trace.check_owner(session) {
+            return Reply::Refused(refusal);
+        }
+        self.traces.shift_remove(&name);
+        Reply::Done
+    }
+
+    /// Makes a call of a session.
+    pub(crate) fn call(&mut self, session: u16, call: &Call) -> Reply
+        ensures { IsStepOrNoMemory self.old session (call_data call.now) (reply_data result) self.new }
+    {
+        match call {
+            Call::OpenTrace {
+                name,
+                procs,
+                budget,
+                cells,
+            } => self.open(session, *name, *procs, *budget, cells),
+            Call::ClaimProcess { name, process } => self.claim(session, *name, *process),
+            Call::ReleaseProcess { name, process } => self.release(session, *name, *process),
+            Call::Report {
+                name,
+                process,
+                access,
+            } => self.report(session, *name, *process, access),
+            Call::SetMark { name } => self.mark(session, *name),
+            Call::GoBack { name, mark } => self.back(session, *name, *mark),
+            Call::RaiseBudget { name, budget } => self.raise(session, *name, *budget),
+            Call::Ask { name, mark } => self.ask(session, *name, *mark),
+            Call::Why { name, mark } => self.why(session, *name, *mark),
+            Call::ShowOps { name, process } => self.show(session, *name, *process),
+            Call::ListTraces => self.list(session),
+            Call::CloseTrace { name } => self.close(session, *name),
+        }
+    }
+}

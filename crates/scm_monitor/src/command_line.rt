@@ -1,0 +1,146 @@
+//! The command line: what it may hold, and its help.
+ghost use Rattle.std.specs.Prelude.{◌≡◌, ◌⊎◌, [], ◌∷◌, map, codes, IfOk, IfErr, IsErrAnd};
+ghost use Rattle.std.specs.List.{All};
+ghost use Rattle.clap.specs.Words.{app_of, kind_of};
+ghost use Rattle.scm_monitor.specs.CommandLine.{asks_for_journal, command_line, IsOption};
+
+use crate::settings::Options;
+use clap::error::ErrorKind;
+use clap::{Arg, ArgAction, Command, Error};
+use std::alloc::Global;
+
+/// What the program is for.
+const ABOUT: &str =
+    "Tells whether what the processes of a concurrent program did is sequentially consistent.
+
+It reads a script from standard input, one call a line, and writes one reply a line to standard output.";
+
+/// The calls, each with an example line, at the end of the help.
+const CALLS: &str =
+    "The first word of a line is the session that makes the call. An example of each:
+  a open t 2 100 x:w=0 y:w=0   a trace t: two processes, 100 situations at most, two cells of 32 bits
+  a claim t 0                  process 0 of t is the session's, which may then report for it
+  a release t 0                and is nobody's again
+  a do t 0 sw x 1              process 0 stored 1 in x (lw, ld, sd, amoadd.w .. and rw are reported so too)
+  a mark t                     marks the present state; the reply has the mark's number
+  a back t 0                   returns to mark 0
+  a raise t 1000               raises the budget of situations
+  a ask t                      is t consistent? (a ask t 0: as it stood at mark 0)
+  a why t                      the same, with a refutation where it is not
+  a show t 0                   the operations of process 0
+  a list                       the open traces
+  a close t                    closes t
+A line that begins with # is a comment. docs/LANGUAGE.md describes the language, with every reply and refusal.
+
+Statuses: 0 the script ended, 1 reading or writing failed, 2 the command line is refused, 3 no memory.";
+
+/// The command line as it is described to clap.
+fn command<'a>(alloc: Global) -> Result<Command<'a>, Error>
+    ensures described { IfOk result (λ command. app_of command ≡ command_line) }
+    ensures memory { IfErr result (λ error. kind_of error ≡ ErrorKind.OutOfMemory) }
+{
+    let journal = Arg::new(alloc, "journal")
+        .long("journal")
+        .action(ArgAction::SetTrue)
+        .help("Write the journal after the replies: each call's place, session, number and reply");
+    let help = Arg::new(alloc, "help")
+        .long("help")
+        .action(ArgAction::Help)
+        .help("Print this help");
+    Ok(
+        Command::new(alloc, "scm_monitor")
+            .no_binary_name(true)
+            .disable_help_flag(true)
+            .about(ABOUT)
+            .after_help(CALLS)
+            .arg(journal)?
+            .arg(help)?,
+    )
+}
+
+/// Reads the words after the program's name. `--help` is answered by an error whose text is the help; so are words that
+/// the program doesn't take, and want of memory.
+pub fn options<'a>(alloc: Global, words: &'a [&'a str]) -> Result<Options, Error>
+    ensures journal { IfOk result (λ options. options.journal ≡ asks_for_journal (map (λ word. word.now) words.entry.now)) }
+    ensures options { IfOk result (λ _. All IsOption (map (λ word. word.now) words.entry.now)) }
+    ensures help { map (λ word. word.now) words.entry.now ≡ codes "--help" ∷ []
+        → IsErrAnd result (λ error. (kind_of error ≡ ErrorKind.DisplayHelp) ⊎ (kind_of error ≡ ErrorKind.OutOfMemory)) }
+    ensures taken { (map (λ word. word.now) words.entry.now ≡ []) ⊎ (map (λ word. word.now) words.entry.now ≡ codes "--journal" ∷ [])
+        → IfErr result (λ error. kind_of error ≡ ErrorKind.OutOfMemory) }
+{
+    let matches = command(alloc)?.try_get_matches_from(words)?;
+    Ok(Options {
+        journal: matches.get_flag("journal"),
+    })
+}
+
+#[cfg(test)]
+mod tests {
+    use super::*;
+    use std::test::Fail;
+
+    #[test]
+    fn no_words(rt: HostRuntime) -> Result<(), Fail> {
+        assert_eq!(rt; options(rt.alloc(), &[])?, Options { journal: false });
+        Ok(())
+    }
+
+    #[test]
+    fn the_journal_is_asked_for(rt: HostRuntime) -> Result<(), Fail> {
+        assert_eq!(rt;
+            options(rt.alloc(), &["--journal"])?,
+            Options { journal: true }
+        );
+        Ok(())
+    }
+
+    #[test]
+    fn help_is_an_error_with_the_text(rt: HostRuntime) -> Result<(), Fail> {
+        for words in [["--help"].as_slice(), ["--journal", "--help"].as_slice()] {
+            let Err(error) = options(rt.alloc(), words) else {
+                return Err(Fail::from("help was no error"));
+            };
+            assert!(rt; error.kind() == ErrorKind::DisplayHelp);
+            assert!(rt; !error.use_stderr());
+            let text = format!(in rt.alloc(); "{error}")?;
+            for call in [
+                "open", "claim", "release", "do", "mark", "back", "raise", "ask", "why", "show",
+                "list", "close",
+            ] {
+                let example = format!(in rt.alloc(); "\n  a {call}")?;
+                assert!(rt;
+                    text.as_str().contains(example.as_str()),
+                    "{call} has an example"
+                );
+            }
+            assert!(rt; text.as_str().contains("--journal"));
+            assert!(rt; text.as_str().contains("docs/LANGUAGE.md"));
+        }
+        Ok(())
+    }
+
+    #[test]
+    fn other_words_are_refused(rt: HostRuntime) -> Result<(), Fail> {
+        for words in [
+            ["--workers"].as_slice(),
+            ["--workers", "2"].as_slice(),
+            ["--each"].as_slice(),
+            ["--journal=x"].as_slice(),
+            ["--journal", "--journal"].as_slice(),
+            ["--journa"].as_slice(),
+            ["-j"].as_slice(),
+            ["-h"].as_slice(),
+            ["script"].as_slice(),
+            ["help"].as_slice(),
+            ["-"].as_slice(),
+            [""].as_slice(),
+        ] {
+            let Err(error) = options(rt.alloc(), words) else {
+                return Err(Fail::from("a word was taken"));
+            };
+            assert!(rt; error.use_stderr());
+            assert_eq!(rt; error.exit_code(), 2);
+        }
+        Ok(())
+    }
+}
