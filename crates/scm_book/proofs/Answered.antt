@@ -3,7 +3,7 @@ use Rattle.std.proofs.Common.{◌≡◌, ◌≤◌, ℕ, Bool, true, false, cond
 use Rattle.std.proofs.lemmas.List.{length-append}
 use Rattle.scm_book.specs.Calls.{ReplyData, EventData, call_by}
 use Rattle.scm_book.specs.Runs.{Answered, IsRun}
-use Rattle.scm_book.specs.Journal.{BookState, IsLegalBook, makes_entry}
+use Rattle.scm_book.specs.Journal.{BookState, makes_entry}
 use Rattle.scm_book.specs.Events.{IsAnswer, AnswersAll, steps_of}
 
 -- one more event is answered
@@ -37,14 +37,12 @@ pub record HasAnswered (old : BookState) (events : List EventData) (replies : Li
   pub run : AnswersAll old events replies new
   pub as_many : length replies ≡ length events
   pub enough : all ≤ room
-  pub legal : IsLegalBook old → IsLegalBook new
 
 module _ (old mid new : BookState) (events : List EventData) (replies : List ReplyData) (event : EventData) (reply : ReplyData) (all room more_room : ℕ) where
-  pub HasAnswered-more : HasAnswered old events replies mid all room → IsAnswer mid event reply new → (IsLegalBook old → IsLegalBook new) → room ≤ more_room
+  pub HasAnswered-more : HasAnswered old events replies mid all room → IsAnswer mid event reply new → room ≤ more_room
       → HasAnswered old (events ++ event ∷ []) (replies ++ reply ∷ []) new all more_room
-  HasAnswered-more had called legal more = record {
+  HasAnswered-more had called more = record {
     run = AnswersAll-more old mid new events replies event reply had.run called;
     as_many = let same : length replies ≡ length events = had.as_many in omega (arith, length-append replies (reply ∷ []), length-append events (event ∷ []), same);
     enough = let enough : all ≤ room = had.enough in omega arith;
-    legal = legal;
   }

@@ -23,7 +23,7 @@ abbrev pub entered : List EntryData → ℕ → CallData → ReplyData → List 
 entered journal session call reply =
     journal ++ record { session = session; number = count_of session journal; call = call; reply = reply } ∷ []
 
--- so it is of each of these entries, which come after some earlier ones
+-- each of these entries, which come after the earlier ones, is numbered so
 abbrev pub AreNumbered : List EntryData → List EntryData → Type 0
 AreNumbered earlier [] = ⊤
 AreNumbered earlier (entry ∷ later) =
@@ -39,7 +39,7 @@ pub record IsLegalHistory (journal : List EntryData) (machine : Machine) : Type 
   pub numbered : AreNumbered [] journal
   pub most : length journal ≤ MOST_ENTRIES
 
--- the journal ends in the machine
+-- the book's journal is a legal history that ends in its machine
 abbrev pub IsLegalBook : BookState → Type 0
 IsLegalBook book = IsLegalHistory book.journal book.machine
 

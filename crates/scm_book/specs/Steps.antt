@@ -51,7 +51,7 @@ SetsMark old name reply new =
     InTrace old name (λ state. (reply ≡ marked (length state.marks))
     × (new ≡ with_trace old name (record state { marks = state.marks ++ lengths_of state.sequences ∷ [] })))
 
--- every sequence is cut to the mark, and the marks after it go
+-- every sequence is cut to the mark, and the marks after it go; the mark itself, claims and budget stay
 abbrev pub GoesBack : Machine → List ℕ → ℕ → ReplyData → Machine → Type 0
 GoesBack old name m reply new =
     InTrace old name (λ state. (reply ≡ done) × IsOkAnd (mark_at state.marks m) (λ lengths.

@@ -1,7 +1,8 @@
 //! The book of open traces.
-ghost use Rattle.std.specs.Prelude.{◌≡◌, [], map};
+ghost use Rattle.std.specs.Prelude.{◌≡◌, [], false, map};
 ghost use Rattle.scm_book.specs.Calls.{call_data, reply_data, entry_data, opens, claims, releases, reports, sets_mark, goes_back, raises, asks, asks_why, shows, lists, closes};
 ghost use Rattle.scm_book.specs.Machine.{empty_machine};
+ghost use Rattle.scm_book.specs.Changes.{tells_of_change};
 ghost use Rattle.scm_book.specs.Journal.{count_of as count_in, IsCall, IsLegalBook};
 
 use crate::journal::Journal;
@@ -66,9 +67,10 @@ impl Book {
         self.journal.count_of(session)
     }
 
-    /// Makes a call of a session.
+    /// Makes a call of a session. The machine is as it was after every reply but `Done` and `MarkSet`.
     pub fn call(&mut self, session: u16, call: Call) -> Reply
         ensures called { IsCall self.old session (call_data call) (reply_data result) self.new }
+        ensures kept { tells_of_change (reply_data result) ≡ false → self.new.machine ≡ self.old.machine }
         ensures legal { IsLegalBook self.new }
     {
         if self.journal.is_full() {

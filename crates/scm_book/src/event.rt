@@ -34,7 +34,7 @@ pub fn run_events(
 ) -> Result<(Book, Vec<Reply>), (Book, Vec<Event>)>
     ensures run { IfOk result (λ ended. AnswersAll book (map event_data events.items) (map reply_data ended.1.items) ended.0) }
     ensures machine { IfOk result (λ ended. IsRun book.machine (steps_of (map event_data events.items) (map reply_data ended.1.items)) ended.0.machine) }
-    ensures legal { IfOk result (λ ended. IsLegalBook book → IsLegalBook ended.0) }
+    ensures legal { IfOk result (λ ended. IsLegalBook ended.0) }
     ensures refused { IfErr result (λ given_back. IsUnchanged book given_back.0 × (map event_data given_back.1.items ≡ map event_data events.items)) }
 {
     let Ok(mut replies) = Vec::with_capacity(alloc, events.len()) else {
@@ -43,5 +43,7 @@ pub fn run_events(
     for event in events {
         replies.push(answer(&mut book, event)).unwrap();
     }
+    // What `entries` says of each book, that its journal is a legal history, is said of this one.
+    let _entries = book.entries();
     Ok((book, replies))
 }

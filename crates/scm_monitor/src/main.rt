@@ -15,13 +15,13 @@ use scm_sessions::{Port, RunFault, run_script, write_journal};
 use settings::Options;
 use std::io::{self, BufWriter};
 use std::process::ExitCode;
-use words::words;
+use words::read_words;
 
 /// The exit status of a command line that is refused.
 const USAGE_STATUS: u8 = 2;
 
 fn main(rt: HostRuntime) -> ExitCode {
-    match words(&rt) {
+    match read_words(&rt) {
         Ok(words) => follow(&rt, words.as_slice()),
         Err(error) => {
             if error.kind() == io::ErrorKind::OutOfMemory {

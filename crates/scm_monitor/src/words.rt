@@ -5,7 +5,7 @@ use std::rt::Env;
 use std::{env, io};
 
 /// The words after the program's name.
-pub fn words(rt: &(impl Env + Alloc<A = Global>)) -> io::Result<Vec<String>> {
+pub fn read_words(rt: &(impl Env + Alloc<A = Global>)) -> io::Result<Vec<String>> {
     let mut words = Vec::new(rt.alloc());
     for word in env::args(rt)?.skip(1) {
         words.push(word)?;

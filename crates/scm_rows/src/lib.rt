@@ -8,6 +8,8 @@ mod book;
 #[cfg(test)]
 mod budgets;
 #[cfg(test)]
+mod evidence;
+#[cfg(test)]
 mod journals;
 #[cfg(test)]
 mod lines;

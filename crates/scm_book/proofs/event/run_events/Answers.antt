@@ -16,7 +16,7 @@ loop-event-preserved c =
     map-append event_data c.loop-event.yielded _ in
     subst (λ (l : List EventData × List ReplyData). HasAnswered c.args.book l.0 l.1 c.answer.new.book (length c.args.events.items) (vec_capacity c.push.new.self)) (λ i. (sym events i, sym replies i))
     (HasAnswered-more c.args.book c.loop-event.book c.answer.new.book (map event_data c.loop-event.yielded) (map reply_data c.loop-event.replies.items) (event_data c.in-Some.event) (reply_data c.answer.result) _
-    (vec_capacity c.loop-event.replies) _ c.loop-event.invariant c.answer.ensures.answered (λ _. c.answer.ensures.legal) c.push.ensures.capacity)
+    (vec_capacity c.loop-event.replies) _ c.loop-event.invariant c.answer.ensures.answered c.push.ensures.capacity)
 
 pub returns-clause-machine : goal.returns-clause-machine
 returns-clause-machine c =

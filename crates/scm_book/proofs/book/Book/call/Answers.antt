@@ -3,6 +3,7 @@ use Rattle.scm_sequences.specs.declared.refusal.Refusal.TheVariants.{NoMemory}
 use Rattle.scm_book.specs.Calls.{ReplyData, call_data, reply_data, refused}
 use Rattle.scm_book.specs.Journal.{BookState, IsCall, IsLegalHistory, entered}
 use Rattle.scm_book.specs.Steps.{IsStep}
+use Rattle.scm_book.proofs.Changing.{machine-kept}
 use Rattle.scm_book.proofs.Calling.{IsLegalHistory-more, IsLegalHistory-same, call-no_memory, call-no_entry, step-from_entry, kept-uncopied}
 use Rattle.scm_book.proofs.book.Book.call.Goals as goal
 
@@ -42,3 +43,11 @@ invariant_of-self-2 c = entered_history c
 
 pub returns-clause-legal : goal.returns-clause-legal
 returns-clause-legal c = entered_history c
+
+pub returns-in_default-clause-kept : goal.returns-in_default-clause-kept
+returns-in_default-clause-kept c = λ _. kept c ∙ ap (λ (b : BookState). b.machine) c.self.view_is
+
+pub returns-clause-kept : goal.returns-clause-kept
+returns-clause-kept c = λ still.
+    machine-kept c.self.inside.traces c.call-reply.new.self c.args.session (call_data c.args.call) (reply_data c.call-reply.result) c.call-reply.ensures still
+    ∙ ap (λ (b : BookState). b.machine) c.self.view_is
