@@ -129,12 +129,24 @@ def measure_questions(program, title, family, verdict):
         print(f"{writers:>8} {STORES:>7} {situations:>11,} {taken:>9.3f} {situations / taken:>13,.0f}")
 
 
+def measure_checker(checker):
+    """The checker of refutations on a list of 100,000 situations, which that program makes itself."""
+    if not os.access(checker, os.X_OK):
+        print(f"\nchecker of refutations: there is no program at {checker}; 'rt run' in crates/scm_bench builds it")
+        return
+    replies, taken = best(checker, b"")
+    if replies != [b"refuted 100000 situations"]:
+        sys.exit("bench: the refutation was turned down")
+    print(f"\nchecker of refutations: 100,000 situations in {taken:.3f} s, with the making of the list")
+
+
 def main():
     program = os.path.abspath(sys.argv[1])
     print(f"machine: {machine()}")
     measure_reports(program)
     measure_questions(program, "questions that are inconsistent: all situations are found", forbidden, b"a inconsistent")
     measure_questions(program, "questions that are consistent: the writers' situations, and those of the reader", allowed, b"a consistent")
+    measure_checker(os.path.abspath(sys.argv[2]))
 
 
 main()
