@@ -1,37 +1,11 @@
--- Lengths within others, and lists of marks of which each is within the later ones.
-use Rattle.std.proofs.Common.{ℕ, ◌≡◌, ◌+◌, ◌<◌, ◌≤◌, List, [], ◌∷◌, ◌++◌, length, take, get_or, AllPairs, refl, sym, ap, ◌∙◌, subst, ⊎_elim, arith}
+-- Lists of marks of which each is within the later ones.
+use Rattle.std.proofs.Common.{ℕ, ◌≡◌, ◌+◌, ◌<◌, ◌≤◌, List, [], ◌∷◌, ◌++◌, length, take, get_or, AllPairs, sym, ap, ◌∙◌, subst, ⊎_elim, arith}
 use Rattle.std.proofs.Math.Seq.{get_or-append_seam}
-use Rattle.std.proofs.lemmas.Bool.{cases_lt, cases_eq}
+use Rattle.std.proofs.lemmas.Bool.{cases_lt}
 use Rattle.std.proofs.lemmas.List.{get_or_append_left, get_or-take, get_or_default, length-take, length_push}
 use Rattle.std.proofs.lemmas.List.Quantifiers.{all_pairs_push}
-use Rattle.scm_sequences.specs.declared.op.Op.{Op}
 use Rattle.scm_sequences.specs.Lengths.{IsWithin}
-use Rattle.scm_sequences.specs.Sequences.{operations, lengths_of, pushed}
-use Rattle.scm_sequences.specs.SequenceLaws.{length-lengths_of, slice_index-lengths_of, length-pushed, operations-pushed_here, operations-pushed_other}
-
--- ---- lengths within lengths
-
-pub IsWithin-reflexive : (lengths : List ℕ) → IsWithin lengths lengths
-IsWithin-reflexive lengths = record { procs = refl; least = λ p. omega arith }
-
-pub IsWithin-transitive : (a b c : List ℕ) → IsWithin a b → IsWithin b c → IsWithin a c
-IsWithin-transitive a b c first second =
-    record { procs = first.procs ∙ second.procs; least = λ p. omega (arith, first.least p, second.least p) }
-
--- an operation more makes no length smaller
-pub IsWithin-pushed : (sequences : List (List Op)) (p : ℕ) (op : Op) → p < length sequences → IsWithin (lengths_of sequences) (lengths_of (pushed sequences p op))
-IsWithin-pushed sequences p op in_p =
-    record {
-      procs = length-lengths_of sequences ∙ sym (length-pushed sequences p op) ∙ sym (length-lengths_of (pushed sequences p op));
-      least = λ q. omega (arith, longer q, slice_index-lengths_of sequences q, slice_index-lengths_of (pushed sequences p op) q);
-    } where
-      here : length (operations sequences p) ≤ length (operations (pushed sequences p op) p)
-      here = omega (arith, ap length (operations-pushed_here sequences p op in_p), length_push (operations sequences p) op)
-
-      longer : (q : ℕ) → length (operations sequences q) ≤ length (operations (pushed sequences p op) q)
-      longer q = ⊎_elim (λ same. subst (λ r. length (operations sequences r) ≤ length (operations (pushed sequences p op) r)) (sym same) here) (λ other. omega (arith, ap length (operations-pushed_other sequences p op q other))) (cases_eq q p)
-
--- ---- lists of which each item is within the later ones
+use Rattle.scm_sequences.specs.LengthLaws.{IsWithin-reflexive, IsWithin-transitive}
 
 -- the items before the last
 pub before_last : (marks : List (List ℕ)) (last : List ℕ) → AllPairs IsWithin (marks ++ last ∷ []) → AllPairs IsWithin marks

@@ -12,7 +12,8 @@ use Rattle.scm_sequences.specs.SequenceLaws.{length-pushed, length-cut_lists, le
 use Rattle.scm_marks.specs.MarkLists.{mark_at, marks_up_to}
 use Rattle.scm_book.specs.Machine.{TraceState}
 use Rattle.scm_book.specs.Sound.{IsSoundTrace}
-use Rattle.scm_book.proofs.Marking.{IsWithin-pushed, within_last, before_last, AllPairs-grown, AllPairs-twice, AllPairs-back}
+use Rattle.scm_sequences.specs.LengthLaws.{IsWithin-pushed}
+use Rattle.scm_book.proofs.Marking.{within_last, before_last, AllPairs-grown, AllPairs-twice, AllPairs-back}
 
 IsSoundTrace-pushed : (state : TraceState) (p : ℕ) (op : Op) → IsSoundTrace state → cell_of op < length state.cells → push_refusal state.sequences p ≡ None → IsSoundTrace (record state { sequences = pushed state.sequences p op })
 IsSoundTrace-pushed state p op sound below free = record {

@@ -1,11 +1,11 @@
-//! The calls on their happy paths, and each refusal of each call once.
+//! The calls on their happy paths. The worked rows have every refusal.
 
 use crate::{Book, Call, Decl, Event, Reply, run_events};
 use scm_cells::{Name, Num, Width};
 use scm_lowering::Access;
-use scm_sequences::{
-    MOST_CELLS, MOST_OPERATIONS, MOST_PROCESSES, MOST_SITUATIONS, MOST_TRACES, Refusal,
-};
+use scm_schedules::{is_legal, refutes};
+use scm_sequences::{Op, Refusal, Sequences};
+use std::alloc::Global;
 use std::process::Abort;
 use std::test::Fail;
 
@@ -47,6 +47,14 @@ fn is_done(reply: Reply) -> bool {
     matches!(reply, Reply::Done)
 }
 
+// A trace with no operations has just the empty schedule.
+fn assert_empty_schedule(rt: &impl Abort, reply: Reply) {
+    let Reply::Consistent(schedule) = reply else {
+        panic!(rt; "not consistent");
+    };
+    assert!(rt; schedule.is_empty());
+}
+
 fn assert_refused(rt: &impl Abort, reply: Reply, refusal: Refusal) {
     let Reply::Refused(given) = reply else {
         panic!(rt; "not refused");
@@ -72,6 +80,25 @@ fn pass_message(rt: &impl Abort, book: &mut Book, last: u64) {
     assert!(rt; is_done(book.report(BERT, t, 1, &load(rt, b"x", last))));
 }
 
+// What the reports of a passed message are: the cell x has the number 0, y the number 1.
+fn passed_message(alloc: Global, last: u64) -> Result<Sequences, Fail> {
+    let mut sequences = Sequences::new(alloc, 2)?;
+    sequences.push(0, Op::W { cell: 0, value: 1 })?;
+    sequences.push(0, Op::W { cell: 1, value: 1 })?;
+    sequences.push(1, Op::R { cell: 1, value: 1 })?;
+    sequences.push(
+        1,
+        Op::R {
+            cell: 0,
+            value: last,
+        },
+    )?;
+    Ok(sequences)
+}
+
+/// What the cells of `open_two` hold at first.
+const INITIALS: [Option<u64>; 2] = [Some(0), Some(0)];
+
 #[test]
 fn message_passing_is_consistent(rt: HostRuntime) -> Result<(), Fail> {
     let mut book = Book::new(rt.alloc());
@@ -81,15 +108,30 @@ fn message_passing_is_consistent(rt: HostRuntime) -> Result<(), Fail> {
         return Err("not consistent".into());
     };
     assert_eq!(rt; schedule.as_slice(), [0, 0, 1, 1].as_slice());
+    let sequences = passed_message(rt.alloc(), 1)?;
+    let lengths = sequences.lengths();
+    assert!(rt; sequences.names_cells_below(INITIALS.len()));
+    assert!(rt; lengths.within(&sequences.lengths()));
+    assert!(rt; is_legal(&INITIALS, &sequences, &lengths, &schedule));
     Ok(())
 }
 
 #[test]
-fn message_lost_is_inconsistent(rt: HostRuntime) {
+fn message_lost_is_refuted(rt: HostRuntime) -> Result<(), Fail> {
     let mut book = Book::new(rt.alloc());
     open_two(&rt, &mut book, 100);
     pass_message(&rt, &mut book, 0);
     assert!(rt; matches!(book.ask(ANNA, name(&rt, b"t"), None), Reply::Inconsistent));
+    let Reply::Because(situations) = book.why(ANNA, name(&rt, b"t"), None).copy()? else {
+        return Err("not refuted".into());
+    };
+    assert_eq!(rt; situations.len(), 4);
+    let sequences = passed_message(rt.alloc(), 0)?;
+    let lengths = sequences.lengths();
+    assert!(rt; sequences.names_cells_below(INITIALS.len()));
+    assert!(rt; lengths.within(&sequences.lengths()));
+    assert!(rt; refutes(rt.alloc(), &INITIALS, &sequences, &lengths, &situations)?);
+    Ok(())
 }
 
 #[test]
@@ -137,139 +179,6 @@ fn calls_are_copied_and_made(rt: HostRuntime) -> Result<(), Fail> {
 }
 
 #[test]
-fn bad_declarations_are_refused(rt: HostRuntime) -> Result<(), Fail> {
-    let t = name(&rt, b"t");
-    let mut book = Book::new(rt.alloc());
-    let one = [cell(&rt, b"x")];
-    let twice = [cell(&rt, b"x"), cell(&rt, b"x")];
-    let too_wide = [Decl {
-        initial: Num::Plain(1 << 32),
-        ..cell(&rt, b"x")
-    }];
-    let mut many = Vec::new(rt.alloc());
-    for i in 0..=MOST_CELLS as u8 {
-        many.push(cell(&rt, &[b'a' + i]))?;
-    }
-    let bad = Refusal::BadDeclaration;
-    assert_refused(&rt, book.open(ANNA, t, 0, 0, &one), bad);
-    assert_refused(
-        &rt,
-        book.open(ANNA, t, MOST_PROCESSES as u64 + 1, 0, &one),
-        bad,
-    );
-    assert_refused(&rt, book.open(ANNA, t, 1, 0, &[]), bad);
-    assert_refused(&rt, book.open(ANNA, t, 1, 0, &many), bad);
-    assert_refused(&rt, book.open(ANNA, t, 1, 0, &twice), bad);
-    assert_refused(&rt, book.open(ANNA, t, 1, 0, &too_wide), bad);
-    let _last = many.pop();
-    let opened = book.open(
-        ANNA,
-        t,
-        MOST_PROCESSES as u64,
-        MOST_SITUATIONS as u64,
-        &many,
-    );
-    assert!(rt; is_done(opened));
-    Ok(())
-}
-
-#[test]
-fn bad_budgets_and_taken_names_are_refused(rt: HostRuntime) {
-    let t = name(&rt, b"t");
-    let mut book = Book::new(rt.alloc());
-    let cells = [cell(&rt, b"x")];
-    assert!(rt; is_done(book.open(ANNA, t, 1, 1, &cells)));
-    assert_refused(&rt, book.open(BERT, t, 1, 0, &cells), Refusal::BadBudget);
-    let past = MOST_SITUATIONS as u64 + 1;
-    assert_refused(&rt, book.open(BERT, t, 1, past, &cells), Refusal::BadBudget);
-    assert_refused(&rt, book.open(BERT, t, 1, 1, &cells), Refusal::NameTaken);
-}
-
-#[test]
-fn traces_past_the_most_are_refused(rt: HostRuntime) {
-    let mut book = Book::new(rt.alloc());
-    let cells = [cell(&rt, b"x")];
-    for i in 0..MOST_TRACES as u8 {
-        let word = [b'a' + i / 8, b'a' + i % 8];
-        assert!(rt; is_done(book.open(ANNA, name(&rt, &word), 1, 1, &cells)));
-    }
-    let taken = book.open(ANNA, name(&rt, b"aa"), 1, 1, &cells);
-    assert_refused(&rt, taken, Refusal::NameTaken);
-    let more = book.open(ANNA, name(&rt, b"t"), 1, 1, &cells);
-    assert_refused(&rt, more, Refusal::TooManyTraces);
-}
-
-#[test]
-fn claims_are_refused(rt: HostRuntime) {
-    let mut book = Book::new(rt.alloc());
-    open_two(&rt, &mut book, 1);
-    let t = name(&rt, b"t");
-    let u = name(&rt, b"u");
-    assert_refused(&rt, book.claim(ANNA, u, 2), Refusal::NoSuchTrace);
-    assert_refused(&rt, book.claim(ANNA, t, 2), Refusal::NoSuchProcess);
-    assert_refused(&rt, book.claim(ANNA, t, 0), Refusal::ProcessTaken);
-    assert_refused(&rt, book.claim(ANNA, t, 1), Refusal::ProcessTaken);
-}
-
-#[test]
-fn reports_are_refused(rt: HostRuntime) {
-    let mut book = Book::new(rt.alloc());
-    open_two(&rt, &mut book, 1);
-    let t = name(&rt, b"t");
-    let u = name(&rt, b"u");
-    let nowhere = load(&rt, b"z", 0);
-    assert_refused(&rt, book.report(ANNA, u, 2, &nowhere), Refusal::NoSuchTrace);
-    assert_refused(
-        &rt,
-        book.report(ANNA, t, 2, &nowhere),
-        Refusal::NoSuchProcess,
-    );
-    assert_refused(&rt, book.report(BERT, t, 0, &nowhere), Refusal::NotClaimed);
-    assert_refused(&rt, book.report(ANNA, t, 0, &nowhere), Refusal::NoSuchCell);
-    let wider = Access::Load {
-        width: Width::D,
-        cell: name(&rt, b"x"),
-        value: Num::Beyond,
-    };
-    assert_refused(&rt, book.report(ANNA, t, 0, &wider), Refusal::WidthMismatch);
-    let beyond = load(&rt, b"x", 1 << 32);
-    assert_refused(
-        &rt,
-        book.report(ANNA, t, 0, &beyond),
-        Refusal::ValueOutOfRange,
-    );
-}
-
-#[test]
-fn operations_past_the_most_are_refused(rt: HostRuntime) {
-    let mut book = Book::new(rt.alloc());
-    open_two(&rt, &mut book, 1);
-    let t = name(&rt, b"t");
-    let access = load(&rt, b"x", 0);
-    for _ in 0..MOST_OPERATIONS {
-        assert!(rt; is_done(book.report(ANNA, t, 0, &access)));
-    }
-    let beyond = load(&rt, b"x", 1 << 32);
-    assert_refused(
-        &rt,
-        book.report(ANNA, t, 0, &beyond),
-        Refusal::ValueOutOfRange,
-    );
-    assert_refused(&rt, book.report(ANNA, t, 0, &access), Refusal::SequenceFull);
-    assert!(rt; is_done(book.report(BERT, t, 1, &access)));
-}
-
-#[test]
-fn questions_are_refused(rt: HostRuntime) {
-    let mut book = Book::new(rt.alloc());
-    assert_refused(
-        &rt,
-        book.ask(ANNA, name(&rt, b"t"), None),
-        Refusal::NoSuchTrace,
-    );
-}
-
-#[test]
 fn a_return_cuts_to_its_mark(rt: HostRuntime) {
     let mut book = Book::new(rt.alloc());
     open_two(&rt, &mut book, 1);
@@ -277,23 +186,11 @@ fn a_return_cuts_to_its_mark(rt: HostRuntime) {
     assert!(rt; matches!(book.mark(ANNA, t), Reply::MarkSet(0)));
     pass_message(&rt, &mut book, 0);
     assert!(rt; matches!(book.ask(BERT, t, None), Reply::Undecided));
-    assert!(rt; matches!(book.ask(BERT, t, Some(0)), Reply::Consistent(_)));
+    assert_empty_schedule(&rt, book.ask(BERT, t, Some(0)));
     assert!(rt; is_done(book.raise(ANNA, t, 100)));
     assert!(rt; matches!(book.ask(BERT, t, None), Reply::Inconsistent));
     assert!(rt; is_done(book.back(ANNA, t, 0)));
-    assert!(rt; matches!(book.ask(BERT, t, None), Reply::Consistent(_)));
-}
-
-#[test]
-fn a_lost_message_is_refuted(rt: HostRuntime) -> Result<(), Fail> {
-    let mut book = Book::new(rt.alloc());
-    open_two(&rt, &mut book, 100);
-    pass_message(&rt, &mut book, 0);
-    let Reply::Because(situations) = book.why(ANNA, name(&rt, b"t"), None).copy()? else {
-        return Err("not refuted".into());
-    };
-    assert_eq!(rt; situations.len(), 4);
-    Ok(())
+    assert_empty_schedule(&rt, book.ask(BERT, t, None));
 }
 
 #[test]

@@ -133,10 +133,7 @@ fn all_amos(rt: HostRuntime) -> Result<(), Fail> {
         let replies = format!(in rt.alloc();
             "{PREPARED}a ok\na ok\na ops 2 RW x 2147483649 {word} RW z 18446744073709551614 {double_word}\n"
         )?;
-        let written = replies_to(rt.alloc(), script.as_bytes()).expect(
-            &rt,
-            "the run ended without a fault",
-        );
+        let written = replies_to(&rt, rt.alloc(), script.as_bytes());
         assert!(rt; written.as_slice() == replies.as_bytes(), "at {kind}");
     }
     Ok(())

@@ -171,10 +171,7 @@ fn the_last_trace_and_one_more(rt: HostRuntime) -> Result<(), Fail> {
     replies.push_str(
         "a refused 3 name-taken\na refused 4 too-many-traces\na refused 16 bad-budget\na ok\na ok\na refused 4 too-many-traces\n",
     )?;
-    let written = replies_to(rt.alloc(), script.as_bytes()).expect(
-        &rt,
-        "the run ended without a fault",
-    );
+    let written = replies_to(&rt, rt.alloc(), script.as_bytes());
     assert!(rt; written.as_slice() == replies.as_bytes());
     Ok(())
 }

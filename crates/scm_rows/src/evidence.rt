@@ -10,43 +10,81 @@ use std::process::Abort;
 /// A session that no script enters.
 const CHECKER: u16 = 300;
 
-/// Stops the test where the schedule or the refutation of an open trace is turned down by its checker.
-pub fn check_evidence(rt: &impl Abort, alloc: Global, book: &mut Book) {
-    let Reply::Traces(names) = book.list(CHECKER) else {
-        panic!(rt; "traces are listed");
-    };
-    for name in names {
-        check_trace(rt, alloc, book, name);
+/// How a trace was opened: its owner, its number of processes, and what its cells hold at first.
+#[derive(Drop)]
+struct Opening {
+    owner: u16,
+    procs: u64,
+    initials: Vec<Option<u64>>,
+}
+
+/// Stops the test where a schedule or a refutation that a journal has is turned down by its checker; a verdict
+/// `inconsistent` is asked for its refutation first.
+pub fn check_evidence(rt: &impl Abort, alloc: Global, entries: &[Entry]) {
+    for (place, entry) in entries.iter().enumerate() {
+        let (Call::Ask { name, mark } | Call::Why { name, mark }) = &entry.call else {
+            continue;
+        };
+        let (earlier, _) = entries.split_at_checked(place).expect(rt, "a place");
+        match &entry.reply {
+            Reply::Consistent(_) | Reply::Because(_) => {
+                check_at(rt, alloc, earlier, *name, *mark, &entry.reply);
+            }
+            Reply::Inconsistent => {
+                let refutation = book_after(rt, alloc, earlier).why(CHECKER, *name, *mark);
+                assert!(rt; matches!(refutation, Reply::Because(_)));
+                check_at(rt, alloc, earlier, *name, *mark, &refutation);
+            }
+            _ => {}
+        }
     }
 }
 
-fn check_trace(rt: &impl Abort, alloc: Global, book: &mut Book, name: Name) {
-    let (procs, initials) = declaration_of(rt, alloc, book.entries(), name);
-    let sequences = sequences_of(rt, alloc, book, name, procs);
-    let lengths = sequences.lengths();
-    assert!(rt; initials.len() <= MOST_CELLS);
-    assert!(rt; sequences.names_cells_below(initials.len()));
-    assert!(rt; lengths.within(&sequences.lengths()));
-    match book.why(CHECKER, name, None) {
-        Reply::Consistent(schedule) => {
-            assert!(rt; is_legal(&initials, &sequences, &lengths, &schedule));
-        }
-        Reply::Because(situations) => {
-            let refuted = refutes(alloc, &initials, &sequences, &lengths, &situations);
-            assert!(rt; refuted.expect(rt, "there is memory"));
-        }
-        _ => {}
+// The book after these calls.
+fn book_after(rt: &impl Abort, alloc: Global, entries: &[Entry]) -> Book {
+    let mut book = Book::new(alloc);
+    for entry in entries {
+        let call = entry.call.copy().expect(rt, "there is memory");
+        let _same_reply = book.call(entry.session, call);
     }
+    book
 }
 
-// The number of processes of a trace, and what its cells hold at first, as the journal has them.
-fn declaration_of(
+// Hands the evidence on with the trace as it was after these calls, or at its mark.
+fn check_at(
     rt: &impl Abort,
     alloc: Global,
     entries: &[Entry],
     name: Name,
-) -> (u64, Vec<Option<u64>>) {
-    let mut declared = (0, Vec::new(alloc));
+    mark: Option<u64>,
+    evidence: &Reply,
+) {
+    let opening = opening_of(rt, alloc, entries, name);
+    let mut book = book_after(rt, alloc, entries);
+    if let Some(mark) = mark {
+        assert!(rt; matches!(book.back(opening.owner, name, mark), Reply::Done));
+    }
+    let sequences = sequences_of(rt, alloc, &mut book, name, opening.procs);
+    let initials = opening.initials;
+    let lengths = sequences.lengths();
+    assert!(rt; initials.len() <= MOST_CELLS);
+    assert!(rt; sequences.names_cells_below(initials.len()));
+    assert!(rt; lengths.within(&sequences.lengths()));
+    match evidence {
+        Reply::Consistent(schedule) => {
+            assert!(rt; is_legal(&initials, &sequences, &lengths, schedule));
+        }
+        Reply::Because(situations) => {
+            let refuted = refutes(alloc, &initials, &sequences, &lengths, situations);
+            assert!(rt; refuted.expect(rt, "there is memory"));
+        }
+        _ => panic!(rt; "no evidence"),
+    }
+}
+
+// How the trace of this name was opened last.
+fn opening_of(rt: &impl Abort, alloc: Global, entries: &[Entry], name: Name) -> Opening {
+    let mut opening = None;
     for entry in entries {
         let Call::OpenTrace {
             name: opened,
@@ -58,10 +96,14 @@ fn declaration_of(
             continue;
         };
         if *opened == name && matches!(entry.reply, Reply::Done) {
-            declared = (*procs, initials_of(rt, alloc, cells));
+            opening = Some(Opening {
+                owner: entry.session,
+                procs: *procs,
+                initials: initials_of(rt, alloc, cells),
+            });
         }
     }
-    declared
+    opening.expect(rt, "the trace was opened")
 }
 
 fn initials_of(rt: &impl Abort, alloc: Global, cells: &[Decl]) -> Vec<Option<u64>> {

@@ -76,10 +76,7 @@ fn long_lines(rt: HostRuntime) -> Result<(), Fail> {
         }
         script.extend_from_slice(ending)?;
     }
-    let written = replies_to(rt.alloc(), script.as_slice()).expect(
-        &rt,
-        "the run ended without a fault",
-    );
+    let written = replies_to(&rt, rt.alloc(), script.as_slice());
     let replies =
         "a refused 2 no-such-trace\na refused 2 no-such-trace\n? refused 1 bad-line\n? refused 1 bad-line\n";
     assert!(rt; written.as_slice() == replies.as_bytes());
@@ -95,10 +92,7 @@ fn too_many_sessions(rt: HostRuntime) -> Result<(), Fail> {
         script.extend_from_slice(line.as_bytes())?;
     }
     script.extend_from_slice(b"s0 ask t\n")?;
-    let written = replies_to(rt.alloc(), script.as_slice()).expect(
-        &rt,
-        "the run ended without a fault",
-    );
+    let written = replies_to(&rt, rt.alloc(), script.as_slice());
     let last =
         "s255 refused 2 no-such-trace\ns256 refused 19 too-many-sessions\ns0 refused 2 no-such-trace\n";
     assert!(rt; written.as_slice().ends_with(last.as_bytes()));
@@ -113,10 +107,7 @@ fn lines_that_are_too_long_or_unnamed(rt: HostRuntime) -> Result<(), Fail> {
         script.push(b'a')?;
     }
     script.extend_from_slice(b"\nA list\na list")?;
-    let written = replies_to(rt.alloc(), script.as_slice()).expect(
-        &rt,
-        "the run ended without a fault",
-    );
+    let written = replies_to(&rt, rt.alloc(), script.as_slice());
     let replies = "? refused 1 bad-line\n? refused 1 bad-line\na traces 0\n";
     assert!(rt; written.as_slice() == replies.as_bytes());
     Ok(())
@@ -130,10 +121,7 @@ fn a_comment_that_is_too_long(rt: HostRuntime) -> Result<(), Fail> {
         script.push(b'#')?;
     }
     script.extend_from_slice(b"\n# short\n")?;
-    let written = replies_to(rt.alloc(), script.as_slice()).expect(
-        &rt,
-        "the run ended without a fault",
-    );
+    let written = replies_to(&rt, rt.alloc(), script.as_slice());
     assert!(rt; written.as_slice() == b"? refused 1 bad-line\n".as_slice());
     Ok(())
 }

@@ -173,10 +173,7 @@ fn marks_past_the_most(rt: HostRuntime) -> Result<(), Fail> {
         "a refused 15 too-many-marks\nb refused 9 not-owner\na ok\na ok 63\na refused 15 too-many-marks\n",
     )?;
     assert!(rt; replies.as_str().contains("\na ok 63\n"));
-    let written = replies_to(rt.alloc(), script.as_bytes()).expect(
-        &rt,
-        "the run ended without a fault",
-    );
+    let written = replies_to(&rt, rt.alloc(), script.as_bytes());
     assert!(rt; written.as_slice() == replies.as_bytes());
     Ok(())
 }

@@ -49,45 +49,21 @@ fn foreign_callers(rt: HostRuntime) {
     );
 }
 
-/// A process with as many operations as it can have refuses one more.
+/// A process with as many operations as it can have refuses one more, and another process takes its own.
 #[test]
 fn sequence_full(rt: HostRuntime) -> Result<(), Fail> {
     let mut script = Vec::new(rt.alloc());
-    script.extend_from_slice(b"a open t 1 1 x:w=0\na claim t 0\n")?;
+    script.extend_from_slice(b"a open t 2 1 x:w=0\na claim t 0\n")?;
     for _ in 0..MOST_OPERATIONS {
         script.extend_from_slice(b"a do t 0 sw x 1\n")?;
     }
-    script.extend_from_slice(b"a do t 0 sw x 1\na ask t\n")?;
-    let written = replies_to(rt.alloc(), script.as_slice()).expect(
-        &rt,
-        "the run ended without a fault",
-    );
-    assert!(rt;
-        written
-            .as_slice()
-            .ends_with(b"\na ok\na refused 13 sequence-full\na undecided\n")
-    );
-    Ok(())
-}
-
-/// Sixty-four traces are open: a name that is taken is refused as such, a new one for want of places.
-#[test]
-fn too_many_traces(rt: HostRuntime) -> Result<(), Fail> {
-    let mut script = Vec::new(rt.alloc());
-    for number in 0..64u8 {
-        script.extend_from_slice(b"a open t")?;
-        let name = format!(in rt.alloc(); "{number}")?;
-        script.extend_from_slice(name.as_bytes())?;
-        script.extend_from_slice(b" 1 1 x:w=0\n")?;
-    }
-    script.extend_from_slice(b"a open t5 1 1 x:w=0\na open v 1 1 x:w=0\n")?;
-    let written = replies_to(rt.alloc(), script.as_slice()).expect(
-        &rt,
-        "the run ended without a fault",
-    );
+    script.extend_from_slice(
+        b"a do t 0 sw x 1\na do t 0 sw x 4294967296\na ask t\na claim t 1\na do t 1 sw x 1\n",
+    )?;
+    let written = replies_to(&rt, rt.alloc(), script.as_slice());
     assert!(rt;
         written.as_slice().ends_with(
-            b"\na ok\na refused 3 name-taken\na refused 4 too-many-traces\n"
+            b"\na ok\na refused 13 sequence-full\na refused 12 value-out-of-range\na undecided\na ok\na ok\n"
         )
     );
     Ok(())

@@ -4,4 +4,4 @@ use Rattle.std.specs.Prelude.{ℕ, ◌≡◌, ◌≤◌, List, length, slice_ind
 -- counts of as many processes, none greater
 pub record IsWithin (counts lengths : List ℕ) : Type 0 where
   pub procs : length counts ≡ length lengths
-  pub least : (p : ℕ) → slice_index counts p ≤ slice_index lengths p
+  pub none_greater : (p : ℕ) → slice_index counts p ≤ slice_index lengths p

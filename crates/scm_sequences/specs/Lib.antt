@@ -3,6 +3,7 @@ pub mod Ops
 pub mod Lengths
 pub mod Sequences
 pub mod SequenceLaws
+pub mod LengthLaws
 pub mod Traces
 pub mod Fronts
 pub mod FrontLaws

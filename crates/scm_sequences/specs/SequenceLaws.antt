@@ -184,7 +184,7 @@ lengths_of-cut_lists sequences lengths within =
     (λ p _. at p) where
       at : (p : ℕ) → slice_index (lengths_of (cut_lists sequences lengths)) p ≡ slice_index lengths p
       at p =
-          let most : slice_index lengths p ≤ slice_index (lengths_of sequences) p = within.least p in
+          let most : slice_index lengths p ≤ slice_index (lengths_of sequences) p = within.none_greater p in
           let whole : slice_index (lengths_of sequences) p ≡ length (operations sequences p) = slice_index-lengths_of sequences p in
           slice_index-lengths_of (cut_lists sequences lengths) p ∙ length-operations_cut sequences lengths p ∙ omega arith
 
@@ -205,7 +205,7 @@ cut_lists-cut_lists sequences more less within =
       at : (p : ℕ) → operations (cut_lists (cut_lists sequences more) less) p ≡ operations (cut_lists sequences less) p
       at p =
           operations-cut_lists (cut_lists sequences more) less p ∙ ap (take (slice_index less p)) (operations-cut_lists sequences more p)
-          ∙ take-take (slice_index less p) (slice_index more p) (operations sequences p) (within.least p) ∙ sym (operations-cut_lists sequences less p)
+          ∙ take-take (slice_index less p) (slice_index more p) (operations sequences p) (within.none_greater p) ∙ sym (operations-cut_lists sequences less p)
 
 pub cut_lists-pushed : (sequences : List (List Op)) (p : ℕ) (op : Op) (lengths : List ℕ) → IsWithin lengths (lengths_of sequences) → cut_lists (pushed sequences p op) lengths ≡ cut_lists sequences lengths
 cut_lists-pushed sequences p op lengths within =
@@ -214,7 +214,7 @@ cut_lists-pushed sequences p op lengths within =
       front : (q : ℕ) → take (slice_index lengths q) (operations (pushed sequences p op) q) ≡ take (slice_index lengths q) (operations sequences q)
       front q = ⊎_elim here (λ ne. ap (take (slice_index lengths q)) (operations-pushed_other sequences p op q ne)) (cases_eq q p) where
         most : slice_index lengths q ≤ length (operations sequences q)
-        most = subst (λ n. slice_index lengths q ≤ n) (slice_index-lengths_of sequences q) (within.least q)
+        most = subst (λ n. slice_index lengths q ≤ n) (slice_index-lengths_of sequences q) (within.none_greater q)
 
         here : q ≡ p → take (slice_index lengths q) (operations (pushed sequences p op) q) ≡ take (slice_index lengths q) (operations sequences q)
         here same = ⊎_elim
