@@ -13,7 +13,8 @@ BUDGET = 1_000_000
 SECONDS = 60  # after this a question is given up
 REPEATS = 3  # the best of so many runs counts
 STORES = 9  # of each writer
-WRITERS = range(1, 6)  # 10, 100, .. 100,000 situations
+WRITERS = range(1, 7)  # 10, 100, .. 1,000,000 situations
+ROUNDS = (10, 100, 1_000)  # of a trace that grows, two reports and a question each
 
 
 def run(program, script, seconds=None):
@@ -92,6 +93,16 @@ def allowed(writers):
     yield "a ask t"
 
 
+def growing(rounds):
+    """A store by one process and its load by another, and then the question whether the trace is consistent, so many
+    times. Each question finds what the earlier ones left."""
+    yield from opened("t", 2, ["x"])
+    for number in range(1, rounds + 1):
+        yield f"a do t 0 sw x {number}"
+        yield f"a do t 1 lw x {number}"
+        yield "a ask t"
+
+
 def machine():
     model = platform.processor() or platform.machine()
     memory = "memory unknown"
@@ -129,6 +140,16 @@ def measure_questions(program, title, family, verdict):
         print(f"{writers:>8} {STORES:>7} {situations:>11,} {taken:>9.3f} {situations / taken:>13,.0f}")
 
 
+def measure_growth(program):
+    print("\na trace that grows and stays consistent: two reports and a question, again and again")
+    print(f"{'questions':>10} {'operations':>11} {'seconds':>9} {'questions/s':>12}")
+    for rounds in ROUNDS:
+        replies, taken = best(program, script_of(growing(rounds)))
+        if not all(reply.startswith(b"a consistent") for reply in replies[5::3]):
+            sys.exit("bench: wrong verdict")
+        print(f"{rounds:>10,} {2 * rounds:>11,} {taken:>9.3f} {rounds / taken:>12,.0f}")
+
+
 def measure_checker(checker):
     """The checker of refutations on a list of 100,000 situations, which that program makes itself."""
     if not os.access(checker, os.X_OK):
@@ -146,6 +167,7 @@ def main():
     measure_reports(program)
     measure_questions(program, "questions that are inconsistent: all situations are found", forbidden, b"a inconsistent")
     measure_questions(program, "questions that are consistent: the writers' situations, and those of the reader", allowed, b"a consistent")
+    measure_growth(program)
     measure_checker(os.path.abspath(sys.argv[2]))
 
 

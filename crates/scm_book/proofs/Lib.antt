@@ -9,3 +9,4 @@ mod Entering
 mod Changing
 mod Calling
 mod Answered
+pub mod Keeping

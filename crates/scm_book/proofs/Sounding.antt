@@ -1,5 +1,8 @@
--- A trace stays sound.
-use Rattle.std.proofs.Common.{ℕ, ◌≡◌, ◌<◌, List, [], ◌∷◌, ◌++◌, length, get_or, slice_get, Option, None, Some, Result, Ok, Err, OnOk, OnErr, AllPairs, refl, sym, ap, ◌∙◌, subst}
+-- A trace is sound, and stays so.
+use Rattle.std.proofs.Common.{ℕ, ◌≡◌, ◌<◌, ◌≤◌, All, arith, List, [], ◌∷◌, ◌++◌, length, get_or, slice_get, Option, None, Some, Result, Ok, Err, OnOk, OnErr, AllPairs, refl, sym, ap, ◌∙◌, subst}
+use Rattle.std.proofs.lemmas.List.{length-replicate}
+use Rattle.std.proofs.lemmas.List.Elements.{All-nil, All-replicate}
+use Rattle.scm_sequences.specs.declared.limits.TheConstants.{MOST_PROCESSES, MOST_SITUATIONS}
 use Rattle.std.proofs.lemmas.Option.{slice_get_within, get_or_from_slice_get}
 use Rattle.std.specs.Option.{ok_or}
 use Rattle.scm_sequences.specs.declared.op.Op.{Op}
@@ -8,12 +11,25 @@ use Rattle.scm_sequences.specs.declared.refusal.Refusal.TheVariants.{NoSuchMark}
 use Rattle.scm_sequences.specs.Lengths.{IsWithin}
 use Rattle.scm_sequences.specs.Ops.{cell_of}
 use Rattle.scm_sequences.specs.Sequences.{push_refusal, pushed, lengths_of, cut_lists}
-use Rattle.scm_sequences.specs.SequenceLaws.{length-pushed, length-cut_lists, lengths_of-cut_lists, push_refusal-none, AreSequences-pushed, AreSequences-cut_lists, NamesCellsBelow-pushed, NamesCellsBelow-cut_lists}
+use Rattle.scm_sequences.specs.SequenceLaws.{length-pushed, length-cut_lists, lengths_of-cut_lists, push_refusal-none, AreSequences-replicate, AreSequences-pushed, AreSequences-cut_lists, NamesCellsBelow-pushed, NamesCellsBelow-cut_lists}
 use Rattle.scm_marks.specs.MarkLists.{mark_at, marks_up_to}
-use Rattle.scm_book.specs.Machine.{TraceState}
+use Rattle.scm_cells.specs.CellLists.{Declared, AreCells}
+use Rattle.scm_book.specs.Machine.{TraceState, new_trace}
 use Rattle.scm_book.specs.Sound.{IsSoundTrace}
 use Rattle.scm_sequences.specs.LengthLaws.{IsWithin-pushed}
 use Rattle.scm_book.proofs.Marking.{within_last, before_last, AllPairs-grown, AllPairs-twice, AllPairs-back}
+
+-- a new trace
+pub IsSoundTrace-new : (owner procs budget : ℕ) (cells : List Declared) → AreCells cells → 0 < procs → procs ≤ MOST_PROCESSES → 1 ≤ budget → budget ≤ MOST_SITUATIONS → IsSoundTrace (new_trace owner procs budget cells)
+IsSoundTrace-new owner procs budget cells are some procs-most least most = record {
+  cells = are;
+  sequences = AreSequences-replicate procs some procs-most;
+  names = All-replicate (λ (ops : List Op). All (λ op. cell_of op < length cells) ops) procs [] (All-nil (λ (op : Op). cell_of op < length cells));
+  claimants = length-replicate procs None ∙ sym (length-replicate procs []);
+  least = least;
+  most = most;
+  marks = λ i j d less within. absurd (omega (arith, less, within));
+}
 
 IsSoundTrace-pushed : (state : TraceState) (p : ℕ) (op : Op) → IsSoundTrace state → cell_of op < length state.cells → push_refusal state.sequences p ≡ None → IsSoundTrace (record state { sequences = pushed state.sequences p op })
 IsSoundTrace-pushed state p op sound below free = record {

@@ -4,8 +4,9 @@ use Rattle.scm_sequences.specs.declared.limits.TheConstants.{MOST_SITUATIONS}
 use Rattle.scm_sequences.specs.Ops.{NamesCellsBelow}
 use Rattle.scm_sequences.specs.Lengths.{IsWithin}
 use Rattle.scm_sequences.specs.Sequences.{AreSequences, lengths_of}
-use Rattle.scm_cells.specs.CellLists.{AreCells}
-use Rattle.scm_book.specs.Machine.{TraceState}
+use Rattle.scm_cells.specs.CellLists.{AreCells, initials_of}
+use Rattle.scm_reach.specs.Kept.{Kept, IsKept}
+use Rattle.scm_book.specs.Machine.{TraceState, trace_in}
 
 -- its cells and sequences are such, the operations name its cells, each process has a place for its claimant, the budget
 -- is one, and each mark is within the later ones and within the present lengths
@@ -17,3 +18,10 @@ pub record IsSoundTrace (state : TraceState) : Type 0 where
   pub least : 1 ≤ state.budget
   pub most : state.budget ≤ MOST_SITUATIONS
   pub marks : AllPairs IsWithin (state.marks ++ lengths_of state.sequences ∷ [])
+
+-- beside a trace stands a set that is kept for it: a kept set of its cells and sequences, with no more members than the
+-- budget allows. It is no part of the machine
+pub record IsKeptFor (state : TraceState) (set : Kept) : Type 0 where
+  pub initials : set.initials ≡ initials_of state.cells
+  pub kept : IsKept (trace_in state) set.members
+  pub few : length set.members ≤ state.budget

@@ -1,5 +1,6 @@
 //! An open trace.
-ghost use Rattle.std.specs.Prelude.{◌≡◌, ◌∷◌, ◌++◌, [], ◌<◌, ◌==◌, length, None, Some, IfOk, IfErr, OnOk, OnErr, IsOkAnd, IsSomeAnd, slice_set, MatchResult};
+ghost use Rattle.std.specs.Prelude.{◌≡◌, ◌∷◌, ◌++◌, [], ◌<◌, ◌≤◌, ◌==◌, length, None, Some, IfOk, IfErr, OnOk, OnErr, IsOkAnd, IsSomeAnd, slice_set, MatchResult};
+ghost use Rattle.scm_sequences.specs.declared.limits.TheConstants.{MOST_PROCESSES, MOST_SITUATIONS};
 ghost use Rattle.scm_sequences.specs.Refusals.{Refuses};
 ghost use Rattle.scm_sequences.specs.Sequences.{pushed, cut_lists, lengths_of};
 ghost use Rattle.scm_budget.specs.Budgets.{raised};
@@ -19,7 +20,8 @@ use scm_budget::Budget;
 use scm_cells::Cells;
 use scm_lowering::{Access, lower};
 use scm_marks::Marks;
-use scm_sequences::{MOST_PROCESSES, Refusal, Sequences};
+use scm_reach::Reach;
+use scm_sequences::{MOST_PROCESSES, NoMemory, Refusal, Sequences};
 use smallvec::SmallVec;
 use std::alloc::Global;
 use std::marker::Model;
@@ -33,17 +35,19 @@ pub(crate) struct OpenTrace {
     sequences: Sequences,
     claimants: SmallVec<Option<u16>, MOST_PROCESSES>,
     marks: Marks,
+    // What questions found out stays for the next ones.
+    reach: Reach,
 }
 
 impl Model for OpenTrace {
     ghost use Rattle.scm_book.specs.Machine.{TraceState};
-    ghost use Rattle.scm_book.specs.Sound.{IsSoundTrace};
+    ghost use Rattle.scm_book.specs.Sound.{IsSoundTrace, IsKeptFor};
 
     ghost Value = { TraceState };
 
     ghost view = { λ t. record { owner = t.owner; budget = t.budget; cells = t.cells; sequences = t.sequences; claimants = t.claimants.items; marks = t.marks } };
 
-    ghost invariant = { λ t. IsSoundTrace (record { owner = t.owner; budget = t.budget; cells = t.cells; sequences = t.sequences; claimants = t.claimants.items; marks = t.marks }) };
+    ghost invariant = { λ t. IsSoundTrace (record { owner = t.owner; budget = t.budget; cells = t.cells; sequences = t.sequences; claimants = t.claimants.items; marks = t.marks }) × IsKeptFor (record { owner = t.owner; budget = t.budget; cells = t.cells; sequences = t.sequences; claimants = t.claimants.items; marks = t.marks }) t.reach };
 }
 
 impl OpenTrace {
@@ -64,10 +68,26 @@ impl OpenTrace {
         }
         let cells = declare_cells(alloc, decls)?;
         let budget = Budget::new(budget)?;
-        let sequences = Sequences::new(alloc, procs as usize)?;
-        let Ok(claimants) = SmallVec::from_elem(alloc, None, procs as usize) else {
-            return Err(Refusal::NoMemory);
-        };
+        Ok(OpenTrace::empty(alloc, owner, procs as usize, budget, cells)?)
+    }
+
+    /// A trace of these cells and so many processes, with no operations, whose processes nobody claimed.
+    fn empty(
+        alloc: Global,
+        owner: u16,
+        procs: usize,
+        budget: Budget,
+        cells: Cells,
+    ) -> Result<OpenTrace, NoMemory>
+        requires some { 0 < procs }
+        requires procs { procs ≤ MOST_PROCESSES }
+        requires least { 1 ≤ budget }
+        requires most { budget ≤ MOST_SITUATIONS }
+        ensures { IfOk result (λ trace. trace ≡ new_trace owner procs budget cells) }
+    {
+        let sequences = Sequences::new(alloc, procs)?;
+        let claimants = SmallVec::from_elem(alloc, None, procs)?;
+        let reach = Reach::new(alloc, &cells, &sequences)?;
         Ok(OpenTrace {
             owner,
             budget,
@@ -75,6 +95,7 @@ impl OpenTrace {
             sequences,
             claimants,
             marks: Marks::new(alloc),
+            reach,
         })
     }
 
@@ -120,7 +141,9 @@ impl OpenTrace {
     {
         let process = self.check_claimant(session, process)?;
         let op = lower(&self.cells, access)?;
-        self.sequences.push(process, op)
+        self.sequences.push(process, op)?;
+        self.reach.grown(process);
+        Ok(())
     }
 
     /// The place of a process that the session claimed. Refused `NoSuchProcess`, then `NotClaimed`.
@@ -167,6 +190,7 @@ impl OpenTrace {
     {
         self.check_owner(session)?;
         let lengths = self.marks.get(mark)?;
+        self.reach.cut(&self.sequences, lengths);
         self.sequences.cut(lengths);
         self.marks.back(mark);
         Ok(())
@@ -183,31 +207,33 @@ impl OpenTrace {
     }
 
     /// Whether the trace is consistent under its budget, as it is or as it stood at a mark. Refused `NoSuchMark`.
-    pub(crate) fn ask(&self, alloc: Global, mark: Option<u64>) -> Result<Reply, Refusal>
-        ensures ok { IfOk result (λ reply. (question_cause self.now mark ≡ None) × Asks self.now mark (reply_data reply)) }
-        ensures err { IfErr result (Refuses (question_cause self.now mark)) }
+    pub(crate) fn ask(&mut self, alloc: Global, mark: Option<u64>) -> Result<Reply, Refusal>
+        ensures ok { IfOk result (λ reply. (question_cause self.old mark ≡ None) × Asks self.old mark (reply_data reply)) }
+        ensures err { IfErr result (Refuses (question_cause self.old mark)) }
+        ensures same { self.new ≡ self.old }
     {
         let limit = self.budget.limit();
         let Some(mark) = mark else {
             let lengths = self.sequences.lengths();
-            return Ok(verdict(alloc, &self.cells, &self.sequences, &lengths, limit)?);
+            return Ok(verdict(alloc, &mut self.reach, &self.sequences, &lengths, limit)?);
         };
         let lengths = self.marks.get(mark)?;
-        Ok(verdict(alloc, &self.cells, &self.sequences, lengths, limit)?)
+        Ok(verdict(alloc, &mut self.reach, &self.sequences, lengths, limit)?)
     }
 
     /// The same, with a refutation where the trace is not consistent. Refused `NoSuchMark`.
-    pub(crate) fn why(&self, alloc: Global, mark: Option<u64>) -> Result<Reply, Refusal>
-        ensures ok { IfOk result (λ reply. (question_cause self.now mark ≡ None) × AsksWhy self.now mark (reply_data reply)) }
-        ensures err { IfErr result (Refuses (question_cause self.now mark)) }
+    pub(crate) fn why(&mut self, alloc: Global, mark: Option<u64>) -> Result<Reply, Refusal>
+        ensures ok { IfOk result (λ reply. (question_cause self.old mark ≡ None) × AsksWhy self.old mark (reply_data reply)) }
+        ensures err { IfErr result (Refuses (question_cause self.old mark)) }
+        ensures same { self.new ≡ self.old }
     {
         let limit = self.budget.limit();
         let Some(mark) = mark else {
             let lengths = self.sequences.lengths();
-            return Ok(explanation(alloc, &self.cells, &self.sequences, &lengths, limit)?);
+            return Ok(explanation(alloc, &mut self.reach, &self.sequences, &lengths, limit)?);
         };
         let lengths = self.marks.get(mark)?;
-        Ok(explanation(alloc, &self.cells, &self.sequences, lengths, limit)?)
+        Ok(explanation(alloc, &mut self.reach, &self.sequences, lengths, limit)?)
     }
 
     /// The operations of a process, each with the name of its cell. Refused `NoSuchProcess`.

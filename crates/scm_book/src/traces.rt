@@ -136,7 +136,7 @@ impl Traces {
     fn ask(&mut self, session: u16, name: Name, mark: Option<u64>) -> Reply
         ensures { IsStepOrNoMemory self.old session (asks name mark) (reply_data result) self.new }
     {
-        let Some(trace) = self.traces.get(&name) else {
+        let Some(trace) = self.traces.get_mut(&name) else {
             return Reply::Refused(Refusal::NoSuchTrace);
         };
         match trace.ask(self.alloc, mark) {
@@ -148,7 +148,7 @@ impl Traces {
     fn why(&mut self, session: u16, name: Name, mark: Option<u64>) -> Reply
         ensures { IsStepOrNoMemory self.old session (asks_why name mark) (reply_data result) self.new }
     {
-        let Some(trace) = self.traces.get(&name) else {
+        let Some(trace) = self.traces.get_mut(&name) else {
             return Reply::Refused(Refusal::NoSuchTrace);
         };
         match trace.why(self.alloc, mark) {

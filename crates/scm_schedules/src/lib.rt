@@ -2,7 +2,6 @@
 //! set that was closed, and the test whether a list of situations leaves no schedule.
 #![tactic(auto)]
 
-mod counts;
 mod gathering;
 mod legal;
 mod links;
