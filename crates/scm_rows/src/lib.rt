@@ -10,6 +10,8 @@ mod budgets;
 #[cfg(test)]
 mod evidence;
 #[cfg(test)]
+mod examples;
+#[cfg(test)]
 mod journals;
 #[cfg(test)]
 mod lines;
