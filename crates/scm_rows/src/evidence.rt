@@ -20,7 +20,7 @@ struct Opening {
 
 /// Stops the test where a schedule or a refutation that a journal has is turned down by its checker; a verdict
 /// `inconsistent` is asked for its refutation first.
-pub fn check_evidence(rt: &impl Abort, alloc: Global, entries: &[Entry]) {
+pub(crate) fn check_evidence(rt: &impl Abort, alloc: Global, entries: &[Entry]) {
     for (place, entry) in entries.iter().enumerate() {
         let (Call::Ask { name, mark } | Call::Why { name, mark }) = &entry.call else {
             continue;

@@ -7,7 +7,7 @@ use std::alloc::Global;
 use std::process::Abort;
 
 /// The replies to a script, from an empty book. Each schedule and each refutation among them is handed to its checker.
-pub fn replies_to(rt: &impl Abort, alloc: Global, script: &[u8]) -> Vec<u8> {
+pub(crate) fn replies_to(rt: &impl Abort, alloc: Global, script: &[u8]) -> Vec<u8> {
     let mut reader = Port::new(script);
     let mut writer = Port::new(Vec::new(alloc));
     let ended = run_script(alloc, Book::new(alloc), &mut reader, &mut writer);
@@ -17,7 +17,7 @@ pub fn replies_to(rt: &impl Abort, alloc: Global, script: &[u8]) -> Vec<u8> {
 }
 
 /// The replies to a script, from an empty book, and then the journal.
-pub fn replies_and_journal(rt: &impl Abort, alloc: Global, script: &[u8]) -> Vec<u8> {
+pub(crate) fn replies_and_journal(rt: &impl Abort, alloc: Global, script: &[u8]) -> Vec<u8> {
     let mut reader = Port::new(script);
     let mut writer = Port::new(Vec::new(alloc));
     let ended = run_script(alloc, Book::new(alloc), &mut reader, &mut writer);
@@ -28,21 +28,21 @@ pub fn replies_and_journal(rt: &impl Abort, alloc: Global, script: &[u8]) -> Vec
 }
 
 /// Stops the test where the script doesn't give these replies.
-pub fn expect_replies(rt: &impl Abort, alloc: Global, script: &str, replies: &str) {
+pub(crate) fn expect_replies(rt: &impl Abort, alloc: Global, script: &str, replies: &str) {
     let written = replies_to(rt, alloc, script.as_bytes());
     let text = std::str::from_utf8(written.as_slice()).expect(rt, "replies are text");
     assert!(rt; text == replies, "the replies are\n{text}");
 }
 
 /// Stops the test where the script doesn't give these replies and this journal.
-pub fn expect_journal(rt: &impl Abort, alloc: Global, script: &str, replies: &str) {
+pub(crate) fn expect_journal(rt: &impl Abort, alloc: Global, script: &str, replies: &str) {
     let written = replies_and_journal(rt, alloc, script.as_bytes());
     let text = std::str::from_utf8(written.as_slice()).expect(rt, "replies are text");
     assert!(rt; text == replies, "the replies and the journal are\n{text}");
 }
 
 /// Runs the lines on the left as one script, and stops the test where the replies aren't those on the right.
-pub fn expect_exchanges(rt: &impl Abort, alloc: Global, exchanges: &[(&str, &str)]) {
+pub(crate) fn expect_exchanges(rt: &impl Abort, alloc: Global, exchanges: &[(&str, &str)]) {
     let mut script = String::new(alloc);
     let mut replies = String::new(alloc);
     for (line, reply) in exchanges {
