@@ -1,48 +1,83 @@
--- A list of events is answered call by call, and its replies are a run of the machine.
-use Rattle.std.proofs.Common.{◌≡◌, ◌≤◌, ℕ, Bool, true, false, cond, List, [], ◌∷◌, ◌++◌, length, refl, sym, ap, subst, arith}
+-- A list of events is answered event by event, and the replies to its calls are a run of the machine.
+use Rattle.std.proofs.Common.{◌≡◌, ◌≤◌, ℕ, Bool, true, false, cond, List, [], ◌∷◌, ◌++◌, length, Option, None, Some, refl, sym, ap, ◌∙◌, subst, arith}
 use Rattle.std.proofs.lemmas.List.{length-append}
-use Rattle.scm_book.specs.Calls.{ReplyData, EventData, call_by}
+use Rattle.scm_expand.specs.Outcomes.{Expanded}
+use Rattle.scm_book.specs.Calls.{ReplyData, CallData, EventData, call_by, takes, delivers}
 use Rattle.scm_book.specs.Runs.{Answered, IsRun}
 use Rattle.scm_book.specs.Journal.{BookState, makes_entry}
-use Rattle.scm_book.specs.Events.{IsAnswer, AnswersAll, steps_of}
+use Rattle.scm_book.specs.Events.{IsAnswered, with_reply, AnswersAll, steps_of}
+
+with_reply-append : (reply : Option ReplyData) (replies more : List ReplyData) → with_reply reply replies ++ more ≡ with_reply reply (replies ++ more)
+with_reply-append None replies more = refl
+with_reply-append (Some reply) replies more = refl
+
+-- an event adds at most one reply
+with_reply-length : (reply : Option ReplyData) → length (with_reply reply []) ≤ 1
+with_reply-length None = omega arith
+with_reply-length (Some reply) = omega arith
 
 -- one more event is answered
-pub AnswersAll-more : (old mid new : BookState) (events : List EventData) (replies : List ReplyData) (event : EventData) (reply : ReplyData) → AnswersAll old events replies mid → IsAnswer mid event reply new
-    → AnswersAll old (events ++ event ∷ []) (replies ++ reply ∷ []) new
-AnswersAll-more old mid new [] replies event reply answers called =
-    (new, reply, [], subst (λ b. IsAnswer b event reply new) answers.1 called, (refl, refl), ap (λ rs. rs ++ reply ∷ []) answers.0)
-AnswersAll-more old mid new (first ∷ events) replies event reply answers called = (
+pub AnswersAll-more : (old mid new : BookState) (events : List EventData) (replies : List ReplyData) (event : EventData) (reply : Option ReplyData) → AnswersAll old events replies mid → IsAnswered mid event reply new
+    → AnswersAll old (events ++ event ∷ []) (replies ++ with_reply reply []) new
+AnswersAll-more old mid new [] replies event reply answers answered =
+    (new, reply, [], subst (λ b. IsAnswered b event reply new) answers.1 answered, (refl, refl), ap (λ rs. rs ++ with_reply reply []) answers.0)
+AnswersAll-more old mid new (first ∷ events) replies event reply answers answered = (
   answers.0,
   answers.1,
-  answers.2 ++ reply ∷ [],
+  answers.2 ++ with_reply reply [],
   answers.3,
-  AnswersAll-more answers.0 mid new events answers.2 event reply answers.4 called,
-  ap (λ rs. rs ++ reply ∷ []) answers.5,
+  AnswersAll-more answers.0 mid new events answers.2 event reply answers.4 answered,
+  ap (λ rs. rs ++ with_reply reply []) answers.5 ∙ with_reply-append answers.1 answers.2 (with_reply reply []),
 )
+
+-- what workers take and deliver gets no reply, and the run goes on from the same machine
+module _ (old mid new : BookState) (events : List EventData) (replies others : List ReplyData) where
+  taken-run : (n : ℕ) (reply : Option ReplyData) → IsAnswered old (takes n) reply mid → replies ≡ with_reply reply others → IsRun mid.machine (steps_of events others) new.machine → IsRun old.machine (steps_of events replies) new.machine
+  taken-run n None answered are rest =
+      subst (λ rs. IsRun old.machine (steps_of events rs) new.machine) (sym are) (subst (λ m. IsRun m (steps_of events others) new.machine) answered.1.unchanged.machine rest)
+  taken-run n (Some reply) answered are rest = absurd answered
+
+  delivered-run : (outcomes : List Expanded) (reply : Option ReplyData) → IsAnswered old (delivers outcomes) reply mid → replies ≡ with_reply reply others → IsRun mid.machine (steps_of events others) new.machine → IsRun old.machine (steps_of events replies) new.machine
+  delivered-run outcomes None answered are rest =
+      subst (λ rs. IsRun old.machine (steps_of events rs) new.machine) (sym are) (subst (λ m. IsRun m (steps_of events others) new.machine) answered.1.unchanged.machine rest)
+  delivered-run outcomes (Some reply) answered are rest = absurd answered
+
+-- a call is a step of the machine where its reply makes an entry
+module _ (old mid new : BookState) (session : ℕ) (call : CallData) (events : List EventData) (replies others : List ReplyData) where
+  called-run : (reply : Option ReplyData) → IsAnswered old (call_by session call) reply mid → replies ≡ with_reply reply others → IsRun mid.machine (steps_of events others) new.machine
+      → IsRun old.machine (steps_of (call_by session call ∷ events) replies) new.machine
+  called-run None answered are rest = absurd answered
+  called-run (Some reply) answered are rest =
+      subst (λ rs. IsRun old.machine (steps_of (call_by session call ∷ events) rs) new.machine) (sym are) (by (makes_entry reply) refl) where
+        this : Answered
+        this = record { session = session; call = call; reply = reply }
+
+        by : (b : Bool) → makes_entry reply ≡ b → IsRun old.machine (cond b (this ∷ steps_of events others) (steps_of events others)) new.machine
+        by true is = (mid.machine, answered.step is, rest)
+        by false is = subst (λ m. IsRun m (steps_of events others) new.machine) (answered.unchanged is).machine rest
 
 -- the replies that make entries are a run of the machine
 pub steps_of-run : (old new : BookState) (events : List EventData) (replies : List ReplyData) → AnswersAll old events replies new → IsRun old.machine (steps_of events replies) new.machine
 steps_of-run old new [] replies answers = ap (λ (b : BookState). b.machine) answers.1
 steps_of-run old new (call_by session call ∷ events) replies answers =
-    subst (λ rs. IsRun old.machine (steps_of (call_by session call ∷ events) rs) new.machine) (sym answers.5) (by (steps_of-run answers.0 new events answers.2 answers.4) (makes_entry answers.1) refl) where
-      this : Answered
-      this = record { session = session; call = call; reply = answers.1 }
+    called-run old answers.0 new session call events replies answers.2 answers.1 answers.3 answers.5 (steps_of-run answers.0 new events answers.2 answers.4)
+steps_of-run old new (takes n ∷ events) replies answers =
+    taken-run old answers.0 new events replies answers.2 n answers.1 answers.3 answers.5 (steps_of-run answers.0 new events answers.2 answers.4)
+steps_of-run old new (delivers outcomes ∷ events) replies answers =
+    delivered-run old answers.0 new events replies answers.2 outcomes answers.1 answers.3 answers.5 (steps_of-run answers.0 new events answers.2 answers.4)
 
-      by : IsRun answers.0.machine (steps_of events answers.2) new.machine → (b : Bool) → makes_entry answers.1 ≡ b → IsRun old.machine (cond b (this ∷ steps_of events answers.2) (steps_of events answers.2)) new.machine
-      by rest true is = (answers.0.machine, answers.3.step is, rest)
-      by rest false is = subst (λ m. IsRun m (steps_of events answers.2) new.machine) (answers.3.unchanged is).machine rest
-
--- what was answered so far, with room for the replies to all
+-- what was answered so far, with room for a reply to each event
 pub record HasAnswered (old : BookState) (events : List EventData) (replies : List ReplyData) (new : BookState) (all room : ℕ) : Type 0 where
   pub run : AnswersAll old events replies new
-  pub as_many : length replies ≡ length events
+  pub at_most : length replies ≤ length events
   pub enough : all ≤ room
 
-module _ (old mid new : BookState) (events : List EventData) (replies : List ReplyData) (event : EventData) (reply : ReplyData) (all room more_room : ℕ) where
-  pub HasAnswered-more : HasAnswered old events replies mid all room → IsAnswer mid event reply new → room ≤ more_room
-      → HasAnswered old (events ++ event ∷ []) (replies ++ reply ∷ []) new all more_room
-  HasAnswered-more had called more = record {
-    run = AnswersAll-more old mid new events replies event reply had.run called;
-    as_many = let same : length replies ≡ length events = had.as_many in omega (arith, length-append replies (reply ∷ []), length-append events (event ∷ []), same);
+module _ (old mid new : BookState) (events : List EventData) (replies : List ReplyData) (event : EventData) (reply : Option ReplyData) (all room more_room : ℕ) where
+  pub HasAnswered-more : HasAnswered old events replies mid all room → IsAnswered mid event reply new → room ≤ more_room
+      → HasAnswered old (events ++ event ∷ []) (replies ++ with_reply reply []) new all more_room
+  HasAnswered-more had answered more = record {
+    run = AnswersAll-more old mid new events replies event reply had.run answered;
+    at_most = let fewer : length replies ≤ length events = had.at_most in
+        let one : length (with_reply reply []) ≤ 1 = with_reply-length reply in omega (arith, length-append replies (with_reply reply []), length-append events (event ∷ []), fewer, one);
     enough = let enough : all ≤ room = had.enough in omega arith;
   }

@@ -8,10 +8,11 @@ use Rattle.scm_book.specs.Calls.{CallData, ReplyData, EntryData, refused}
 use Rattle.scm_book.specs.Machine.{Machine, empty_machine}
 use Rattle.scm_book.specs.Steps.{IsStep, IsStepOrNoMemory}
 use Rattle.scm_book.specs.Changes.{tells_of_change}
+use Rattle.scm_book.specs.Sets.{LeavesSets}
 use Rattle.scm_book.specs.Runs.{Answered, IsRun}
 use Rattle.scm_book.specs.Journal.{BookState, IsUnchanged, IsLegalHistory, IsCall, is_full, makes_entry, entered, answered}
 use Rattle.scm_book.proofs.Counting.{AreNumbered-entered}
-use Rattle.scm_book.proofs.Changing.{machine-kept, step-enters}
+use Rattle.scm_book.proofs.Changing.{step-enters}
 
 -- ---- histories
 
@@ -40,13 +41,30 @@ IsLegalHistory-same journal others old new same_journal same_machine legal =
 
 -- ---- ways out of a call
 
+-- the journal is full
+pub call-full : (old new : BookState) (session : ℕ) (call : CallData) (before after : ℕ) → is_full old.journal ≡ true → IsUnchanged old new → new.sets ≡ old.sets → new.results ≡ old.results
+    → LeavesSets old.machine old.sets call (refused JournalFull) before after new.sets → IsCall old session call (refused JournalFull) new
+call-full old new session call before after full same same_sets counts left = record {
+  full = ((λ is. full), (λ is. refl));
+  step = λ entered. let no : false ≡ true = entered in cc;
+  entry = λ entered. let no : false ≡ true = entered in cc;
+  unchanged = λ _. same;
+  results = counts;
+  idle = λ _. same_sets;
+  work = (before, after, left);
+}
+
 -- memory was refused
-pub call-no_memory : (old new : BookState) (session : ℕ) (call : CallData) → is_full old.journal ≡ false → IsUnchanged old new → IsCall old session call (refused NoMemory) new
-call-no_memory old new session call room same = record {
+pub call-no_memory : (old new : BookState) (session : ℕ) (call : CallData) (before after : ℕ) → is_full old.journal ≡ false → IsUnchanged old new → new.results ≡ old.results → LeavesSets old.machine old.sets call (refused NoMemory) before after new.sets
+    → IsCall old session call (refused NoMemory) new
+call-no_memory old new session call before after room same counts left = record {
   full = ((λ is. let no : false ≡ true = ap makes_memory_entry is in cc), (λ is. let no : false ≡ true = sym room ∙ is in cc));
   step = λ entered. let no : false ≡ true = entered in cc;
   entry = λ entered. let no : false ≡ true = entered in cc;
   unchanged = λ _. same;
+  results = counts;
+  idle = λ is. let no : false ≡ true = ap makes_memory_entry is in cc;
+  work = (before, after, left);
 } where
   -- tells the two refusals apart
   makes_memory_entry : ReplyData → Bool
@@ -54,11 +72,25 @@ call-no_memory old new session call room same = record {
   makes_memory_entry reply = false
 
 -- the machine's reply makes no entry
-pub call-no_entry : (old new : BookState) (session : ℕ) (call : CallData) (reply : ReplyData) → is_full old.journal ≡ false → IsStepOrNoMemory old.machine session call reply new.machine → makes_entry reply ≡ false
-    → new.journal ≡ old.journal → IsCall old session call reply new
-call-no_entry old new session call reply room (inl step) none same = let no : true ≡ false = sym (step-enters old.machine new.machine session call reply step) ∙ none in cc
-call-no_entry old new session call reply room (inr memory) none same =
-    subst (λ r. IsCall old session call r new) (sym memory.0) (call-no_memory old new session call room (record { journal = same; machine = memory.1 }))
+pub call-no_entry : (old new : BookState) (session : ℕ) (call : CallData) (reply : ReplyData) (before after : ℕ) → is_full old.journal ≡ false → IsStepOrNoMemory old.machine session call reply new.machine
+    → makes_entry reply ≡ false → new.journal ≡ old.journal → new.results ≡ old.results → LeavesSets old.machine old.sets call reply before after new.sets → IsCall old session call reply new
+call-no_entry old new session call reply before after room (inl step) none same counts left = let no : true ≡ false = sym (step-enters old.machine new.machine session call reply step) ∙ none in cc
+call-no_entry old new session call reply before after room (inr memory) none same counts left =
+    subst (λ r. IsCall old session call r new) (sym memory.0)
+    (call-no_memory old new session call before after room (record { journal = same; machine = memory.1 }) counts (subst (λ r. LeavesSets old.machine old.sets call r before after new.sets) memory.0 left))
+
+-- the machine's reply makes an entry, which stands last
+pub call-entered : (old new : BookState) (session : ℕ) (call : CallData) (reply : ReplyData) (before after : ℕ) → is_full old.journal ≡ false → makes_entry reply ≡ true → IsStep old.machine session call reply new.machine
+    → new.journal ≡ entered old.journal session call reply → new.results ≡ old.results → LeavesSets old.machine old.sets call reply before after new.sets → IsCall old session call reply new
+call-entered old new session call reply before after room makes step last counts left = record {
+  full = ((λ is. let no : false ≡ true = ap makes_entry (sym is) ∙ makes in cc), (λ is. let no : false ≡ true = sym room ∙ is in cc));
+  step = λ _. step;
+  entry = λ _. last;
+  unchanged = λ none. let no : true ≡ false = sym makes ∙ none in cc;
+  results = counts;
+  idle = λ is. let no : false ≡ true = ap makes_entry (sym is) ∙ makes in cc;
+  work = (before, after, left);
+}
 
 -- the machine's reply makes an entry: it is that of a step
 pub step-from_entry : (old new : Machine) (session : ℕ) (call : CallData) (reply : ReplyData) → IsStepOrNoMemory old session call reply new → makes_entry reply ≡ true → IsStep old session call reply new
@@ -66,8 +98,8 @@ step-from_entry old new session call reply (inl step) some = step
 step-from_entry old new session call reply (inr memory) some = let no : false ≡ true = sym (ap makes_entry memory.0) ∙ some in cc
 
 -- a reply that couldn't be copied tells of no change
-pub kept-uncopied : (old new : Machine) (session : ℕ) (call : CallData) (reply : ReplyData) (copied : Bool) → IsStepOrNoMemory old session call reply new → (tells_of_change reply ≡ true → copied ≡ true) → copied ≡ false → new ≡ old
-kept-uncopied old new session call reply copied step light failed = by (tells_of_change reply) refl where
-  by : (tells : Bool) → tells_of_change reply ≡ tells → new ≡ old
+pub untold : (reply : ReplyData) (copied : Bool) → (tells_of_change reply ≡ true → copied ≡ true) → copied ≡ false → tells_of_change reply ≡ false
+untold reply copied light failed = by (tells_of_change reply) refl where
+  by : (tells : Bool) → tells_of_change reply ≡ tells → tells_of_change reply ≡ false
   by true is = let no : true ≡ false = sym (light is) ∙ failed in cc
-  by false is = machine-kept old new session call reply step is
+  by false is = is

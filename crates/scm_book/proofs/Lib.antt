@@ -10,3 +10,6 @@ mod Changing
 mod Calling
 mod Answered
 pub mod Keeping
+pub mod Leaving
+mod Delivering
+mod Taking

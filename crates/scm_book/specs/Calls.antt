@@ -1,8 +1,9 @@
 -- Calls, replies and entries of the journal as plain data: what a clause compares, with a list for each vector.
-use Rattle.std.specs.Prelude.{ℕ, List, Option}
+use Rattle.std.specs.Prelude.{ℕ, List, Option, Result, Ok, Err}
 use Rattle.scm_sequences.specs.declared.refusal.Refusal.{Refusal}
 use Rattle.scm_lowering.specs.declared.access.Access.{Access}
 use Rattle.scm_frontier.specs.Situated.{Situated}
+use Rattle.scm_expand.specs.Outcomes.{Expanded}
 use Rattle.scm_book.specs.declared.call.Decl.{Decl}
 use Rattle.scm_book.specs.declared.call.Call.{Call}
 use Rattle.scm_book.specs.declared.call.Call.TheVariants.{OpenTrace, ClaimProcess, ReleaseProcess, Report, SetMark, GoBack, RaiseBudget, Ask, Why, ShowOps, ListTraces, CloseTrace}
@@ -11,7 +12,7 @@ use Rattle.scm_book.specs.declared.reply.Reply.{Reply}
 use Rattle.scm_book.specs.declared.reply.Reply.TheVariants.{Done, MarkSet, Consistent, Inconsistent, Undecided, Because, Ops, Traces, Refused}
 use Rattle.scm_book.specs.declared.entry.Entry.{Entry}
 use Rattle.scm_book.specs.declared.event.Event.{Event}
-use Rattle.scm_book.specs.declared.event.Event.TheVariants.{CallBy}
+use Rattle.scm_book.specs.declared.event.Event.TheVariants.{CallBy, Take, Deliver}
 
 pub data CallData : Type 0 where
   -- the trace's name, its number of processes, its budget and its cells
@@ -62,6 +63,10 @@ pub record EntryData : Type 0 where
 pub data EventData : Type 0 where
   -- a session and its call
   call_by : ℕ → CallData → EventData
+  -- a worker takes at most so many tasks
+  takes : ℕ → EventData
+  -- outcomes are delivered
+  delivers : List Expanded → EventData
 
 abbrev pub call_data : Call → CallData
 call_data (OpenTrace name procs budget cells) = opens name procs budget cells.items
@@ -88,6 +93,11 @@ reply_data (Ops operations) = ops operations.items
 reply_data (Traces names) = listed names.items
 reply_data (Refused refusal) = refused refusal
 
+-- what is replied to a call that may be refused
+abbrev pub answer_data : Result Reply Refusal → ReplyData
+answer_data (Ok reply) = reply_data reply
+answer_data (Err refusal) = refused refusal
+
 abbrev pub entry_data : Entry → EntryData
 entry_data entry = record {
   session = entry.session;
@@ -98,3 +108,5 @@ entry_data entry = record {
 
 abbrev pub event_data : Event → EventData
 event_data (CallBy session call) = call_by session (call_data call)
+event_data (Take n) = takes n
+event_data (Deliver outcomes) = delivers outcomes.items

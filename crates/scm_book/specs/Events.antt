@@ -1,24 +1,39 @@
 -- A list of events, and what a book answers to it: one reply to each call, in order.
-use Rattle.std.specs.Prelude.{◌≡◌, List, [], ◌∷◌, if◌then◌else◌}
-use Rattle.scm_book.specs.Calls.{ReplyData, EventData, call_by}
+use Rattle.std.specs.Prelude.{◌≡◌, List, [], ◌∷◌, Option, None, Some, if◌then◌else◌}
+use Rattle.scm_results.specs.declared.results.Results.{Results}
+use Rattle.scm_expand.specs.declared.task.Task.{Task}
+use Rattle.scm_book.specs.Calls.{ReplyData, EventData, call_by, takes, delivers}
 use Rattle.scm_book.specs.Runs.{Answered}
 use Rattle.scm_book.specs.Journal.{BookState, makes_entry, IsCall}
+use Rattle.scm_book.specs.Workers.{IsTaking, IsDelivery}
 
--- an event with this reply leads from old to new
-abbrev pub IsAnswer : BookState → EventData → ReplyData → BookState → Type 0
-IsAnswer old (call_by session call) reply new = IsCall old session call reply new
+-- an event leads from old to new: a call with its reply, what workers take and deliver with none
+abbrev pub IsAnswered : BookState → EventData → Option ReplyData → BookState → Type 0
+IsAnswered old (call_by session call) (Some reply) new = IsCall old session call reply new
+IsAnswered old (call_by session call) None new = ⊥
+IsAnswered old (takes n) (Some reply) new = ⊥
+IsAnswered old (takes n) None new = (given : Option (List Task)) × IsTaking old n given new
+IsAnswered old (delivers outcomes) (Some reply) new = ⊥
+IsAnswered old (delivers outcomes) None new = (delivered : Results) × IsDelivery old outcomes delivered new
+
+-- the replies, with this one first if it is one
+abbrev pub with_reply : Option ReplyData → List ReplyData → List ReplyData
+with_reply None replies = replies
+with_reply (Some reply) replies = reply ∷ replies
 
 -- the events lead from old to new with these replies
 abbrev pub AnswersAll : BookState → List EventData → List ReplyData → BookState → Type 0
 AnswersAll old [] replies new = (replies ≡ []) × (new ≡ old)
 AnswersAll old (event ∷ events) replies new =
-    (mid : BookState) × (reply : ReplyData) × (others : List ReplyData)
-    × IsAnswer old event reply mid × AnswersAll mid events others new × (replies ≡ reply ∷ others)
+    (mid : BookState) × (reply : Option ReplyData) × (others : List ReplyData)
+    × IsAnswered old event reply mid × AnswersAll mid events others new × (replies ≡ with_reply reply others)
 
 -- the calls and replies that are steps of the machine: all but those refused for want of memory or for a full journal
 abbrev pub steps_of : List EventData → List ReplyData → List Answered
 steps_of [] replies = []
-steps_of events [] = []
+steps_of (takes n ∷ events) replies = steps_of events replies
+steps_of (delivers outcomes ∷ events) replies = steps_of events replies
+steps_of (call_by session call ∷ events) [] = []
 steps_of (call_by session call ∷ events) (reply ∷ replies) =
     if makes_entry reply then record { session = session; call = call; reply = reply } ∷ steps_of events replies
     else steps_of events replies

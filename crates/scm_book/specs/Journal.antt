@@ -3,8 +3,11 @@
 use Rattle.std.specs.Prelude.{ℕ, ◌≡◌, ◌≤◌, ◌↔◌, ⊤, List, [], ◌∷◌, ◌++◌, length, map, Bool, true, false, nat_le, ◌==◌, count_by}
 use Rattle.scm_sequences.specs.declared.refusal.Refusal.TheVariants.{JournalFull, NoMemory}
 use Rattle.scm_sequences.specs.declared.limits.TheConstants.{MOST_ENTRIES}
+use Rattle.scm_results.specs.declared.results.Results.{Results}
+use Rattle.scm_reach.specs.Kept.{Kept}
 use Rattle.scm_book.specs.Calls.{CallData, ReplyData, refused, EntryData}
 use Rattle.scm_book.specs.Machine.{Machine, empty_machine}
+use Rattle.scm_book.specs.Sets.{LeavesSets}
 use Rattle.scm_book.specs.Steps.{IsStep}
 use Rattle.scm_book.specs.Runs.{Answered, IsRun}
 
@@ -13,6 +16,10 @@ pub record BookState : Type 0 where
   -- the entries, in order
   pub journal : List EntryData
   pub machine : Machine
+  -- the sets that are kept for the traces, each under the name of its trace
+  pub sets : List (List ℕ × Kept)
+  -- how many tasks were taken, and what became of the outcomes that were delivered
+  pub results : Results
 
 -- how many entries are of this session
 abbrev pub count_of : ℕ → List EntryData → ℕ
@@ -46,7 +53,7 @@ IsLegalBook book = IsLegalHistory book.journal book.machine
 abbrev pub is_full : List EntryData → Bool
 is_full journal = nat_le MOST_ENTRIES (length journal)
 
--- nothing changed
+-- neither journal nor machine changed
 pub record IsUnchanged (old new : BookState) : Type 0 where
   pub journal : new.journal ≡ old.journal
   pub machine : new.machine ≡ old.machine
@@ -59,9 +66,12 @@ makes_entry reply = true
 
 -- a session's call with this reply leads from old to new. It is refused for a full journal exactly where the journal is
 -- full. A reply that makes an entry is that of the machine, and this call with its reply stands last in the journal; with
--- any other nothing changes.
+-- any other journal and machine are as they were. What was found out before is kept, as far as the call allows it.
 pub record IsCall (old : BookState) (session : ℕ) (call : CallData) (reply : ReplyData) (new : BookState) : Type 0 where
   pub full : (reply ≡ refused JournalFull) ↔ (is_full old.journal ≡ true)
   pub step : makes_entry reply ≡ true → IsStep old.machine session call reply new.machine
   pub entry : makes_entry reply ≡ true → new.journal ≡ entered old.journal session call reply
   pub unchanged : makes_entry reply ≡ false → IsUnchanged old new
+  pub results : new.results ≡ old.results
+  pub idle : reply ≡ refused JournalFull → new.sets ≡ old.sets
+  pub work : (before after : ℕ) × LeavesSets old.machine old.sets call reply before after new.sets

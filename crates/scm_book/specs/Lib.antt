@@ -1,6 +1,7 @@
 pub mod Calls
 pub mod Machine
 pub mod Sound
+pub mod Sets
 pub mod Showing
 pub mod Verdicts
 pub mod Refusals
@@ -9,6 +10,7 @@ pub mod Changes
 pub mod Runs
 pub mod Journal
 pub mod JournalState
+pub mod Workers
 pub mod Events
 pub use Rattle.scm_sequences.specs.Fronts
 pub use Rattle.scm_sequences.specs.Traces
@@ -17,6 +19,13 @@ pub use Rattle.scm_sequences.specs.Lengths
 pub use Rattle.scm_budget.specs.Budgets
 pub use Rattle.scm_marks.specs.MarkLists
 pub use Rattle.scm_schedules.specs.Refuting
+pub use Rattle.scm_reach.specs.Kept
+pub use Rattle.scm_reach.specs.Handing
+pub use Rattle.scm_reach.specs.Accepting
+pub use Rattle.scm_expand.specs.Outcomes
+pub use Rattle.scm_results.specs.Totals
+pub use Rattle.scm_reach.specs.Work
+pub use Rattle.scm_reach.specs.Cutting
 pub use Rattle.scm_cells.specs.Names
 pub use Rattle.scm_cells.specs.CellLists
 pub use Rattle.scm_cells.specs.Numbers

@@ -1,7 +1,10 @@
 //! The book of open traces.
-ghost use Rattle.std.specs.Prelude.{◌≡◌, [], false, map};
+ghost use Rattle.std.specs.Prelude.{◌≡◌, ◌↔◌, [], false, map, None, Some, IsTrue, MatchResult};
 ghost use Rattle.scm_book.specs.Calls.{call_data, reply_data, entry_data, opens, claims, releases, reports, sets_mark, goes_back, raises, asks, asks_why, shows, lists, closes};
 ghost use Rattle.scm_book.specs.Machine.{empty_machine};
+ghost use Rattle.scm_book.specs.Sets.{HasRoom, HasRoomFor, HoldsFor, LeavesSets, SearchesSet};
+ghost use Rattle.scm_results.specs.Totals.{none_counted};
+ghost use Rattle.scm_book.specs.Workers.{IsTaking, IsDelivery};
 ghost use Rattle.scm_book.specs.Changes.{tells_of_change};
 ghost use Rattle.scm_book.specs.Journal.{count_of as count_in, IsCall, IsLegalBook};
 
@@ -9,34 +12,40 @@ use crate::journal::Journal;
 use crate::traces::Traces;
 use crate::{Call, Decl, Entry, Reply};
 use scm_cells::Name;
+use scm_expand::{Outcome, Task};
+use scm_frontier::Steps;
 use scm_lowering::Access;
-use scm_sequences::Refusal;
+use scm_results::Results;
+use scm_sequences::{NoMemory, Refusal};
 use std::alloc::Global;
 use std::marker::Model;
 
 /// The open traces, with a journal of the calls that were answered.
 ///
 /// Contracts see a record: `machine` is the machine that the book stands for, and `journal` its entries, a legal history
-/// that ends in this machine. A session is a number that the caller gives.
+/// that ends in this machine. Beside the machine stand `sets`, what questions and outcomes found out about each trace, and
+/// `results`, the totals of tasks and outcomes. A session is a number that the caller gives.
 ///
 /// Each call answers `Refused(JournalFull)` where the journal is full, before all else; then what the machine answers, or
-/// `Refused(NoMemory)`. After these two refusals nothing has changed; with any other reply the call and its reply stand
-/// last in the journal.
+/// `Refused(NoMemory)`. After these two refusals machine and journal are as they were, and after the first the sets too;
+/// with any other reply the call and its reply stand last in the journal.
 #[derive(Drop)]
 pub struct Book {
     alloc: Global,
     traces: Traces,
     journal: Journal,
+    results: Results,
 }
 
 impl Model for Book {
     ghost use Rattle.scm_book.specs.Journal.{BookState, IsLegalHistory};
+    ghost use Rattle.scm_book.specs.Sets.{machine_in, sets_in};
 
     ghost Value = { BookState };
 
-    ghost view = { λ b. record { journal = b.journal.entries; machine = b.traces } };
+    ghost view = { λ b. record { journal = b.journal.entries; machine = machine_in b.traces; sets = sets_in b.traces; results = b.results } };
 
-    ghost invariant = { λ b. IsLegalHistory b.journal.entries b.traces };
+    ghost invariant = { λ b. IsLegalHistory b.journal.entries (machine_in b.traces) };
 }
 
 impl Book {
@@ -44,11 +53,14 @@ impl Book {
     pub fn new(alloc: Global) -> Book
         ensures machine { result.machine ≡ empty_machine }
         ensures journal { result.journal ≡ [] }
+        ensures sets { result.sets ≡ [] }
+        ensures results { result.results ≡ none_counted }
     {
         Book {
             alloc,
             traces: Traces::new(alloc),
             journal: Journal::new(alloc),
+            results: Results::new(),
         }
     }
 
@@ -67,10 +79,70 @@ impl Book {
         self.journal.count_of(session)
     }
 
-    /// Makes a call of a session. The machine is as it was after every reply but `Done` and `MarkSet`.
+    /// How many situations are kept for the trace of this name, `None` where it isn't there. What is kept is a kept set of
+    /// the trace as it stands.
+    pub fn held(&self, name: &Name) -> Option<usize>
+        ensures { HoldsFor self.now.machine self.now.sets name.now result }
+    {
+        self.traces.held(name)
+    }
+
+    /// How many tasks were taken, and what became of the outcomes that were delivered.
+    pub fn results(&self) -> Results
+        ensures { result ≡ self.now.results }
+    {
+        self.results
+    }
+
+    /// Takes at most `n` tasks for workers, all of one trace: at least one where `n` isn't 0 and some trace has a next
+    /// operation that is still to be looked at and room in its budget. A trace with such operations that weren't handed out
+    /// comes first. Neither machine nor journal changes. Where memory is refused nothing is handed out.
+    pub fn take(&mut self, n: usize) -> Result<Vec<Task>, NoMemory>
+        ensures taken { MatchResult result (λ tasks. IsTaking self.old n (Some tasks.items) self.new) (λ _. IsTaking self.old n None self.new) }
+        ensures legal { IsLegalBook self.new }
+    {
+        let tasks = self.traces.take(n)?;
+        self.results.take(tasks.len());
+        Ok(tasks)
+    }
+
+    /// Takes outcomes back, whatever they are: late, repeated, of a trace that was returned, closed or opened again since.
+    /// Gives what became of them. Neither machine nor journal changes.
+    pub fn deliver(&mut self, outcomes: Vec<Outcome>) -> Results
+        ensures delivered { IsDelivery self.old outcomes.items result self.new }
+        ensures none_taken { result.taken ≡ 0 }
+        ensures legal { IsLegalBook self.new }
+    {
+        let delivered = self.traces.deliver(outcomes);
+        self.results.add(&delivered);
+        delivered
+    }
+
+    /// Whether the counter has room for the steps of a question about the trace of this name. A new counter always has.
+    pub fn has_room(&self, name: &Name, steps: &Steps) -> bool
+        ensures exact { IsTrue result ↔ HasRoomFor self.now.machine name.now steps.now }
+        ensures new { steps.now ≡ 0 → IsTrue result }
+    {
+        self.traces.has_room(name, steps)
+    }
+
+    /// Makes a call of a session. The machine is as it was after every reply but `Done` and `MarkSet`. The steps of a
+    /// question are counted in a counter of its own.
     pub fn call(&mut self, session: u16, call: Call) -> Reply
         ensures called { IsCall self.old session (call_data call) (reply_data result) self.new }
         ensures kept { tells_of_change (reply_data result) ≡ false → self.new.machine ≡ self.old.machine }
+        ensures legal { IsLegalBook self.new }
+    {
+        let mut steps = self.traces.new_counter(&call);
+        self.make(session, call, &mut steps)
+    }
+
+    /// Makes a call of a session, and counts the steps of a question.
+    fn make(&mut self, session: u16, call: Call, steps: &mut Steps) -> Reply
+        requires room { HasRoom self.old.machine (call_data call) steps.old }
+        ensures called { IsCall self.old session (call_data call) (reply_data result) self.new }
+        ensures kept { tells_of_change (reply_data result) ≡ false → self.new.machine ≡ self.old.machine }
+        ensures sets { LeavesSets self.old.machine self.old.sets (call_data call) (reply_data result) steps.old steps.new self.new.sets }
         ensures legal { IsLegalBook self.new }
     {
         if self.journal.is_full() {
@@ -79,7 +151,7 @@ impl Book {
         if self.journal.make_room(session).is_err() {
             return Reply::Refused(Refusal::NoMemory);
         }
-        let reply = self.traces.call(session, &call);
+        let reply = self.traces.call(session, &call, steps);
         if !reply.makes_entry() {
             return reply;
         }
@@ -180,20 +252,27 @@ impl Book {
     }
 
     /// Whether the trace is sequentially consistent, as it is or as it stood at a mark. Refused `NoSuchTrace`,
-    /// `NoSuchMark`.
-    pub fn ask(&mut self, session: u16, name: Name, mark: Option<u64>) -> Reply
+    /// `NoSuchMark`. The counter needs room, as `has_room` says. What was found out stays for the next questions, and isn't
+    /// paid for again: at most two steps more are made than pairs of a situation and a process are looked at for the first
+    /// time, and none where a situation with every operation is held or all was looked at, as it is once the same question
+    /// was answered.
+    pub fn ask(&mut self, session: u16, name: Name, mark: Option<u64>, steps: &mut Steps) -> Reply
+        requires room { HasRoomFor self.old.machine name steps.old }
         ensures called { IsCall self.old session (asks name mark) (reply_data result) self.new }
+        ensures work { SearchesSet self.old.machine self.old.sets name mark (reply_data result) steps.old steps.new self.new.sets }
         ensures legal { IsLegalBook self.new }
     {
-        self.call(session, Call::Ask { name, mark })
+        self.make(session, Call::Ask { name, mark }, steps)
     }
 
     /// The same, with a refutation in place of `Inconsistent`. Refused `NoSuchTrace`, `NoSuchMark`.
-    pub fn why(&mut self, session: u16, name: Name, mark: Option<u64>) -> Reply
+    pub fn why(&mut self, session: u16, name: Name, mark: Option<u64>, steps: &mut Steps) -> Reply
+        requires room { HasRoomFor self.old.machine name steps.old }
         ensures called { IsCall self.old session (asks_why name mark) (reply_data result) self.new }
+        ensures work { SearchesSet self.old.machine self.old.sets name mark (reply_data result) steps.old steps.new self.new.sets }
         ensures legal { IsLegalBook self.new }
     {
-        self.call(session, Call::Why { name, mark })
+        self.make(session, Call::Why { name, mark }, steps)
     }
 
     /// The operations of a process, as they are stored. Refused `NoSuchTrace`, `NoSuchProcess`.

@@ -1,11 +1,14 @@
 //! Lists of events.
-ghost use Rattle.std.specs.Prelude.{◌≡◌, map, IfOk, IfErr};
+ghost use Rattle.std.specs.Prelude.{◌≡◌, ◌<◌, ◌≤◌, ◌++◌, [], length, map, IfOk, IfErr};
+ghost use Rattle.std.specs.Vec.{vec_capacity};
+ghost use Rattle.std.specs.Option.{option_map};
 ghost use Rattle.scm_book.specs.Calls.{reply_data, event_data};
 ghost use Rattle.scm_book.specs.Runs.{IsRun};
-ghost use Rattle.scm_book.specs.Journal.{IsLegalBook, IsUnchanged};
-ghost use Rattle.scm_book.specs.Events.{IsAnswer, AnswersAll, steps_of};
+ghost use Rattle.scm_book.specs.Journal.{IsLegalBook};
+ghost use Rattle.scm_book.specs.Events.{IsAnswered, AnswersAll, with_reply, steps_of};
 
 use crate::{Book, Call, Reply};
+use scm_expand::Outcome;
 use std::alloc::Global;
 
 /// What happens to a book.
@@ -13,15 +16,38 @@ use std::alloc::Global;
 pub enum Event {
     /// A session makes a call.
     CallBy { session: u16, call: Call },
+    /// A worker takes at most this many tasks, and drops them.
+    Take(usize),
+    /// Outcomes are delivered.
+    Deliver(Vec<Outcome>),
 }
 
-/// The reply to an event.
-fn answer(book: &mut Book, event: Event) -> Reply
-    ensures answered { IsAnswer book.old (event_data event) (reply_data result) book.new }
+/// The reply to an event, where it is a call.
+fn answer(book: &mut Book, event: Event) -> Option<Reply>
+    ensures answered { IsAnswered book.old (event_data event) (option_map reply_data result) book.new }
     ensures legal { IsLegalBook book.new }
 {
     match event {
-        Event::CallBy { session, call } => book.call(session, call),
+        Event::CallBy { session, call } => Some(book.call(session, call)),
+        Event::Take(n) => {
+            let _dropped = book.take(n);
+            None
+        }
+        Event::Deliver(outcomes) => {
+            book.deliver(outcomes);
+            None
+        }
+    }
+}
+
+/// Adds the reply to an event, if there is one, where there is room.
+fn add_reply(replies: &mut Vec<Reply>, reply: Option<Reply>)
+    requires room { length replies.old.items < vec_capacity replies.old }
+    ensures items { map reply_data replies.new.items ≡ map reply_data replies.old.items ++ with_reply (option_map reply_data reply) [] }
+    ensures capacity { vec_capacity replies.old ≤ vec_capacity replies.new }
+{
+    if let Some(reply) = reply {
+        replies.push(reply).unwrap();
     }
 }
 
@@ -35,13 +61,13 @@ pub fn run_events(
     ensures run { IfOk result (λ ended. AnswersAll book (map event_data events.items) (map reply_data ended.1.items) ended.0) }
     ensures machine { IfOk result (λ ended. IsRun book.machine (steps_of (map event_data events.items) (map reply_data ended.1.items)) ended.0.machine) }
     ensures legal { IfOk result (λ ended. IsLegalBook ended.0) }
-    ensures refused { IfErr result (λ given_back. IsUnchanged book given_back.0 × (map event_data given_back.1.items ≡ map event_data events.items)) }
+    ensures refused { IfErr result (λ given_back. (given_back.0 ≡ book) × (map event_data given_back.1.items ≡ map event_data events.items)) }
 {
     let Ok(mut replies) = Vec::with_capacity(alloc, events.len()) else {
         return Err((book, events));
     };
     for event in events {
-        replies.push(answer(&mut book, event)).unwrap();
+        add_reply(&mut replies, answer(&mut book, event));
     }
     // What `entries` says of each book, that its journal is a legal history, is said of this one.
     let _entries = book.entries();

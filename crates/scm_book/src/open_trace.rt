@@ -6,16 +6,17 @@ ghost use Rattle.scm_sequences.specs.Sequences.{pushed, cut_lists, lengths_of};
 ghost use Rattle.scm_budget.specs.Budgets.{raised};
 ghost use Rattle.scm_marks.specs.MarkLists.{mark_at, marks_up_to};
 ghost use Rattle.scm_lowering.specs.Lowering.{lowered};
-ghost use Rattle.scm_book.specs.Calls.{reply_data};
+ghost use Rattle.scm_reach.specs.Cutting.{cut_members};
 ghost use Rattle.scm_book.specs.Machine.{new_trace};
-ghost use Rattle.scm_book.specs.Refusals.{trace_cause, claim_cause, release_cause, report_cause, not_owner, mark_cause, back_cause, raise_cause, question_cause, no_process, declared_cells};
+ghost use Rattle.scm_book.specs.Refusals.{trace_cause, claim_cause, release_cause, report_cause, not_owner, mark_cause, back_cause, raise_cause, no_process, declared_cells};
 ghost use Rattle.scm_book.specs.Showing.{shown_operations};
-ghost use Rattle.scm_book.specs.Steps.{Asks, AsksWhy};
+
+mod asking;
+mod working;
 
 use crate::declarations::declare_cells;
-use crate::question::{explanation, verdict};
 use crate::showing::show_all;
-use crate::{Decl, Reply, Shown};
+use crate::{Decl, Shown};
 use scm_budget::Budget;
 use scm_cells::Cells;
 use scm_lowering::{Access, lower};
@@ -26,7 +27,7 @@ use smallvec::SmallVec;
 use std::alloc::Global;
 use std::marker::Model;
 
-/// A trace that is open, without its name. Contracts see its state in the machine.
+/// A trace that is open, without its name. Contracts see its state in the machine, and the set that is kept for it.
 #[derive(Drop)]
 pub(crate) struct OpenTrace {
     owner: u16,
@@ -35,17 +36,17 @@ pub(crate) struct OpenTrace {
     sequences: Sequences,
     claimants: SmallVec<Option<u16>, MOST_PROCESSES>,
     marks: Marks,
-    // What questions found out stays for the next ones.
+    // What questions and outcomes found out stays for the next questions.
     reach: Reach,
 }
 
 impl Model for OpenTrace {
-    ghost use Rattle.scm_book.specs.Machine.{TraceState};
     ghost use Rattle.scm_book.specs.Sound.{IsSoundTrace, IsKeptFor};
+    ghost use Rattle.scm_book.specs.Sets.{KeptTrace};
 
-    ghost Value = { TraceState };
+    ghost Value = { KeptTrace };
 
-    ghost view = { λ t. record { owner = t.owner; budget = t.budget; cells = t.cells; sequences = t.sequences; claimants = t.claimants.items; marks = t.marks } };
+    ghost view = { λ t. record { state = record { owner = t.owner; budget = t.budget; cells = t.cells; sequences = t.sequences; claimants = t.claimants.items; marks = t.marks }; set = t.reach } };
 
     ghost invariant = { λ t. IsSoundTrace (record { owner = t.owner; budget = t.budget; cells = t.cells; sequences = t.sequences; claimants = t.claimants.items; marks = t.marks }) × IsKeptFor (record { owner = t.owner; budget = t.budget; cells = t.cells; sequences = t.sequences; claimants = t.claimants.items; marks = t.marks }) t.reach };
 }
@@ -60,7 +61,8 @@ impl OpenTrace {
         budget: u64,
         decls: &[Decl],
     ) -> Result<OpenTrace, Refusal>
-        ensures ok { IfOk result (λ trace. (trace_cause procs budget decls.now ≡ None) × IsSomeAnd (declared_cells decls.now) (λ cells. trace ≡ new_trace owner procs budget cells)) }
+        ensures ok { IfOk result (λ trace. (trace_cause procs budget decls.now ≡ None) × IsSomeAnd (declared_cells decls.now) (λ cells. trace.state ≡ new_trace owner procs budget cells)) }
+        ensures set { IfOk result (λ trace. length trace.set.members ≡ 1) }
         ensures err { IfErr result (Refuses (trace_cause procs budget decls.now)) }
     {
         if procs == 0 || procs > MOST_PROCESSES as u64 {
@@ -83,7 +85,8 @@ impl OpenTrace {
         requires procs { procs ≤ MOST_PROCESSES }
         requires least { 1 ≤ budget }
         requires most { budget ≤ MOST_SITUATIONS }
-        ensures { IfOk result (λ trace. trace ≡ new_trace owner procs budget cells) }
+        ensures state { IfOk result (λ trace. trace.state ≡ new_trace owner procs budget cells) }
+        ensures set { IfOk result (λ trace. length trace.set.members ≡ 1) }
     {
         let sequences = Sequences::new(alloc, procs)?;
         let claimants = SmallVec::from_elem(alloc, None, procs)?;
@@ -101,8 +104,9 @@ impl OpenTrace {
 
     /// Claims a process for the session. Refused `NoSuchProcess`, then `ProcessTaken`.
     pub(crate) fn claim(&mut self, session: u16, process: u64) -> Result<(), Refusal>
-        ensures ok { OnOk result ((claim_cause self.old process ≡ None) × (self.new ≡ record self.old { claimants = slice_set self.old.claimants process (Some session) })) }
-        ensures err { IfErr result (λ refusal. claim_cause self.old process ≡ Some refusal) }
+        ensures ok { OnOk result ((claim_cause self.old.state process ≡ None) × (self.new.state ≡ record self.old.state { claimants = slice_set self.old.state.claimants process (Some session) })) }
+        ensures err { IfErr result (λ refusal. claim_cause self.old.state process ≡ Some refusal) }
+        ensures set { self.new.set ≡ self.old.set }
         ensures unchanged { OnErr result (self.new ≡ self.old) }
     {
         let process = process as usize;
@@ -118,8 +122,9 @@ impl OpenTrace {
 
     /// Gives up a process that the session claimed. Refused `NoSuchProcess`, then `NotClaimed`.
     pub(crate) fn release(&mut self, session: u16, process: u64) -> Result<(), Refusal>
-        ensures ok { OnOk result ((release_cause self.old session process ≡ None) × (self.new ≡ record self.old { claimants = slice_set self.old.claimants process None })) }
-        ensures err { IfErr result (λ refusal. release_cause self.old session process ≡ Some refusal) }
+        ensures ok { OnOk result ((release_cause self.old.state session process ≡ None) × (self.new.state ≡ record self.old.state { claimants = slice_set self.old.state.claimants process None })) }
+        ensures err { IfErr result (λ refusal. release_cause self.old.state session process ≡ Some refusal) }
+        ensures set { self.new.set ≡ self.old.set }
         ensures unchanged { OnErr result (self.new ≡ self.old) }
     {
         let process = self.check_claimant(session, process)?;
@@ -135,8 +140,9 @@ impl OpenTrace {
         process: u64,
         access: &Access,
     ) -> Result<(), Refusal>
-        ensures ok { OnOk result ((report_cause self.old session process access.now ≡ None) × IsOkAnd (lowered self.old.cells access.now) (λ op. self.new ≡ record self.old { sequences = pushed self.old.sequences process op })) }
-        ensures err { IfErr result (Refuses (report_cause self.old session process access.now)) }
+        ensures ok { OnOk result ((report_cause self.old.state session process access.now ≡ None) × IsOkAnd (lowered self.old.state.cells access.now) (λ op. self.new.state ≡ record self.old.state { sequences = pushed self.old.state.sequences process op })) }
+        ensures err { IfErr result (Refuses (report_cause self.old.state session process access.now)) }
+        ensures set { self.new.set ≡ self.old.set }
         ensures unchanged { OnErr result (self.new ≡ self.old) }
     {
         let process = self.check_claimant(session, process)?;
@@ -148,7 +154,7 @@ impl OpenTrace {
 
     /// The place of a process that the session claimed. Refused `NoSuchProcess`, then `NotClaimed`.
     fn check_claimant(&self, session: u16, process: u64) -> Result<usize, Refusal>
-        ensures { MatchResult result (λ place. (release_cause self.now session process ≡ None) × (place ≡ process) × (place < length self.now.claimants)) (λ refusal. release_cause self.now session process ≡ Some refusal) }
+        ensures { MatchResult result (λ place. (release_cause self.now.state session process ≡ None) × (place ≡ process) × (place < length self.now.state.claimants)) (λ refusal. release_cause self.now.state session process ≡ Some refusal) }
     {
         let process = process as usize;
         if process >= self.claimants.len() {
@@ -162,7 +168,7 @@ impl OpenTrace {
 
     /// Refused `NotOwner` where the session did not open the trace.
     pub(crate) fn check_owner(&self, session: u16) -> Result<(), Refusal>
-        ensures { MatchResult result (λ _. not_owner self.now session ≡ None) (λ refusal. not_owner self.now session ≡ Some refusal) }
+        ensures { MatchResult result (λ _. not_owner self.now.state session ≡ None) (λ refusal. not_owner self.now.state session ≡ Some refusal) }
     {
         if self.owner == session {
             Ok(())
@@ -173,9 +179,10 @@ impl OpenTrace {
 
     /// Marks the present lengths, and gives the number of the mark. Refused `NotOwner`, then `TooManyMarks`.
     pub(crate) fn mark(&mut self, session: u16) -> Result<u64, Refusal>
-        ensures number { IfOk result (λ n. n ≡ length self.old.marks) }
-        ensures ok { OnOk result ((mark_cause self.old session ≡ None) × (self.new ≡ record self.old { marks = self.old.marks ++ lengths_of self.old.sequences ∷ [] })) }
-        ensures err { IfErr result (Refuses (mark_cause self.old session)) }
+        ensures number { IfOk result (λ n. n ≡ length self.old.state.marks) }
+        ensures ok { OnOk result ((mark_cause self.old.state session ≡ None) × (self.new.state ≡ record self.old.state { marks = self.old.state.marks ++ lengths_of self.old.state.sequences ∷ [] })) }
+        ensures err { IfErr result (Refuses (mark_cause self.old.state session)) }
+        ensures set { self.new.set ≡ self.old.set }
         ensures unchanged { OnErr result (self.new ≡ self.old) }
     {
         self.check_owner(session)?;
@@ -184,8 +191,9 @@ impl OpenTrace {
 
     /// Cuts every sequence to a mark and drops the marks after it. Refused `NotOwner`, then `NoSuchMark`.
     pub(crate) fn back(&mut self, session: u16, mark: u64) -> Result<(), Refusal>
-        ensures ok { OnOk result ((back_cause self.old session mark ≡ None) × IsOkAnd (mark_at self.old.marks mark) (λ lengths. self.new ≡ record self.old { sequences = cut_lists self.old.sequences lengths; marks = marks_up_to self.old.marks mark })) }
-        ensures err { IfErr result (λ refusal. back_cause self.old session mark ≡ Some refusal) }
+        ensures ok { OnOk result ((back_cause self.old.state session mark ≡ None) × IsOkAnd (mark_at self.old.state.marks mark) (λ lengths. self.new.state ≡ record self.old.state { sequences = cut_lists self.old.state.sequences lengths; marks = marks_up_to self.old.state.marks mark })) }
+        ensures err { IfErr result (λ refusal. back_cause self.old.state session mark ≡ Some refusal) }
+        ensures set { OnOk result (IsOkAnd (mark_at self.old.state.marks mark) (λ lengths. self.new.set ≡ record self.old.set { members = cut_members lengths self.old.set.members })) }
         ensures unchanged { OnErr result (self.new ≡ self.old) }
     {
         self.check_owner(session)?;
@@ -198,48 +206,19 @@ impl OpenTrace {
 
     /// Raises the budget. Refused `NotOwner`, then `BadBudget` below the present budget or above `MOST_SITUATIONS`.
     pub(crate) fn raise(&mut self, session: u16, budget: u64) -> Result<(), Refusal>
-        ensures ok { OnOk result ((raise_cause self.old session budget ≡ None) × IsOkAnd (raised self.old.budget budget) (λ number. self.new ≡ record self.old { budget = number })) }
-        ensures err { IfErr result (λ refusal. raise_cause self.old session budget ≡ Some refusal) }
+        ensures ok { OnOk result ((raise_cause self.old.state session budget ≡ None) × IsOkAnd (raised self.old.state.budget budget) (λ number. self.new.state ≡ record self.old.state { budget = number })) }
+        ensures err { IfErr result (λ refusal. raise_cause self.old.state session budget ≡ Some refusal) }
+        ensures set { self.new.set ≡ self.old.set }
         ensures unchanged { OnErr result (self.new ≡ self.old) }
     {
         self.check_owner(session)?;
         self.budget.raise(budget)
     }
 
-    /// Whether the trace is consistent under its budget, as it is or as it stood at a mark. Refused `NoSuchMark`.
-    pub(crate) fn ask(&mut self, alloc: Global, mark: Option<u64>) -> Result<Reply, Refusal>
-        ensures ok { IfOk result (λ reply. (question_cause self.old mark ≡ None) × Asks self.old mark (reply_data reply)) }
-        ensures err { IfErr result (Refuses (question_cause self.old mark)) }
-        ensures same { self.new ≡ self.old }
-    {
-        let limit = self.budget.limit();
-        let Some(mark) = mark else {
-            let lengths = self.sequences.lengths();
-            return Ok(verdict(alloc, &mut self.reach, &self.sequences, &lengths, limit)?);
-        };
-        let lengths = self.marks.get(mark)?;
-        Ok(verdict(alloc, &mut self.reach, &self.sequences, lengths, limit)?)
-    }
-
-    /// The same, with a refutation where the trace is not consistent. Refused `NoSuchMark`.
-    pub(crate) fn why(&mut self, alloc: Global, mark: Option<u64>) -> Result<Reply, Refusal>
-        ensures ok { IfOk result (λ reply. (question_cause self.old mark ≡ None) × AsksWhy self.old mark (reply_data reply)) }
-        ensures err { IfErr result (Refuses (question_cause self.old mark)) }
-        ensures same { self.new ≡ self.old }
-    {
-        let limit = self.budget.limit();
-        let Some(mark) = mark else {
-            let lengths = self.sequences.lengths();
-            return Ok(explanation(alloc, &mut self.reach, &self.sequences, &lengths, limit)?);
-        };
-        let lengths = self.marks.get(mark)?;
-        Ok(explanation(alloc, &mut self.reach, &self.sequences, lengths, limit)?)
-    }
-
     /// The operations of a process, each with the name of its cell. Refused `NoSuchProcess`.
     pub(crate) fn show(&self, alloc: Global, process: u64) -> Result<Vec<Shown>, Refusal>
-        ensures ok { IfOk result (λ shown. (no_process self.now process ≡ None) × (shown.items ≡ shown_operations self.now process)) }
-        ensures err { IfErr result (Refuses (no_process self.now process)) }
+        ensures ok { IfOk result (λ shown. (no_process self.now.state process ≡ None) × (shown.items ≡ shown_operations self.now.state process)) }
+        ensures err { IfErr result (Refuses (no_process self.now.state process)) }
     {
         let process = process as usize;
         if process >= self.claimants.len() {

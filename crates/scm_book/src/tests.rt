@@ -1,50 +1,20 @@
 //! The calls on their happy paths. The worked rows have every refusal.
 
-use crate::{Book, Call, Decl, Event, Reply, run_events};
-use scm_cells::{Name, Num, Width};
-use scm_lowering::Access;
+use crate::test_words::{ANNA, BERT, cell, is_done, load, name, store};
+use crate::{Book, Call, Event, Reply, run_events};
+use scm_cells::Name;
 use scm_schedules::{is_legal, refutes};
 use scm_sequences::{Op, Refusal, Sequences};
 use std::alloc::Global;
 use std::process::Abort;
 use std::test::Fail;
 
-/// The sessions of the tests.
-const ANNA: u16 = 1;
-
-const BERT: u16 = 2;
-
-fn name(rt: &impl Abort, word: &[u8]) -> Name {
-    Name::read(word).expect(rt, "a name")
+fn ask(book: &mut Book, session: u16, name: Name, mark: Option<u64>) -> Reply {
+    book.call(session, Call::Ask { name, mark })
 }
 
-/// A cell of 32 bits that holds 0 at first.
-fn cell(rt: &impl Abort, word: &[u8]) -> Decl {
-    Decl {
-        name: name(rt, word),
-        width: Width::W,
-        initial: Num::Plain(0),
-    }
-}
-
-fn load(rt: &impl Abort, word: &[u8], value: u64) -> Access {
-    Access::Load {
-        width: Width::W,
-        cell: name(rt, word),
-        value: Num::Plain(value),
-    }
-}
-
-fn store(rt: &impl Abort, word: &[u8], value: u64) -> Access {
-    Access::Store {
-        width: Width::W,
-        cell: name(rt, word),
-        value: Num::Plain(value),
-    }
-}
-
-fn is_done(reply: Reply) -> bool {
-    matches!(reply, Reply::Done)
+fn why(book: &mut Book, session: u16, name: Name, mark: Option<u64>) -> Reply {
+    book.call(session, Call::Why { name, mark })
 }
 
 // A trace with no operations has just the empty schedule.
@@ -104,7 +74,7 @@ fn message_passing_is_consistent(rt: HostRuntime) -> Result<(), Fail> {
     let mut book = Book::new(rt.alloc());
     open_two(&rt, &mut book, 100);
     pass_message(&rt, &mut book, 1);
-    let Reply::Consistent(schedule) = book.ask(BERT, name(&rt, b"t"), None) else {
+    let Reply::Consistent(schedule) = ask(&mut book, BERT, name(&rt, b"t"), None) else {
         return Err("not consistent".into());
     };
     assert_eq!(rt; schedule.as_slice(), [0, 0, 1, 1].as_slice());
@@ -121,8 +91,13 @@ fn message_lost_is_refuted(rt: HostRuntime) -> Result<(), Fail> {
     let mut book = Book::new(rt.alloc());
     open_two(&rt, &mut book, 100);
     pass_message(&rt, &mut book, 0);
-    assert!(rt; matches!(book.ask(ANNA, name(&rt, b"t"), None), Reply::Inconsistent));
-    let Reply::Because(situations) = book.why(ANNA, name(&rt, b"t"), None).copy()? else {
+    assert!(rt;
+        matches!(
+            ask(&mut book, ANNA, name(&rt, b"t"), None),
+            Reply::Inconsistent
+        )
+    );
+    let Reply::Because(situations) = why(&mut book, ANNA, name(&rt, b"t"), None).copy()? else {
         return Err("not refuted".into());
     };
     assert_eq!(rt; situations.len(), 4);
@@ -139,7 +114,12 @@ fn small_budget_is_undecided(rt: HostRuntime) {
     let mut book = Book::new(rt.alloc());
     open_two(&rt, &mut book, 1);
     pass_message(&rt, &mut book, 0);
-    assert!(rt; matches!(book.ask(ANNA, name(&rt, b"t"), None), Reply::Undecided));
+    assert!(rt;
+        matches!(
+            ask(&mut book, ANNA, name(&rt, b"t"), None),
+            Reply::Undecided
+        )
+    );
 }
 
 #[test]
@@ -185,12 +165,12 @@ fn a_return_cuts_to_its_mark(rt: HostRuntime) {
     let t = name(&rt, b"t");
     assert!(rt; matches!(book.mark(ANNA, t), Reply::MarkSet(0)));
     pass_message(&rt, &mut book, 0);
-    assert!(rt; matches!(book.ask(BERT, t, None), Reply::Undecided));
-    assert_empty_schedule(&rt, book.ask(BERT, t, Some(0)));
+    assert!(rt; matches!(ask(&mut book, BERT, t, None), Reply::Undecided));
+    assert_empty_schedule(&rt, ask(&mut book, BERT, t, Some(0)));
     assert!(rt; is_done(book.raise(ANNA, t, 100)));
-    assert!(rt; matches!(book.ask(BERT, t, None), Reply::Inconsistent));
+    assert!(rt; matches!(ask(&mut book, BERT, t, None), Reply::Inconsistent));
     assert!(rt; is_done(book.back(ANNA, t, 0)));
-    assert_empty_schedule(&rt, book.ask(BERT, t, None));
+    assert_empty_schedule(&rt, ask(&mut book, BERT, t, None));
 }
 
 #[test]
@@ -206,7 +186,7 @@ fn traces_are_released_listed_and_closed(rt: HostRuntime) -> Result<(), Fail> {
     assert_eq!(rt; names.len(), 1);
     assert_refused(&rt, book.close(BERT, t), Refusal::NotOwner);
     assert!(rt; is_done(book.close(ANNA, t)));
-    assert_refused(&rt, book.ask(ANNA, t, None), Refusal::NoSuchTrace);
+    assert_refused(&rt, ask(&mut book, ANNA, t, None), Refusal::NoSuchTrace);
     Ok(())
 }
 

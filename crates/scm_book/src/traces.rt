@@ -1,19 +1,25 @@
 //! The open traces: the machine that a book stands for.
-ghost use Rattle.std.specs.Prelude.{◌≡◌, IfOk};
+ghost use Rattle.std.specs.Prelude.{◌≡◌, ◌↔◌, [], IfOk, IsTrue};
+ghost use Rattle.std.specs.Map.{remove_entry};
+ghost use Rattle.scm_cells.specs.Names.{name_eq};
 ghost use Rattle.scm_book.specs.Calls.{call_data, reply_data, opens, claims, releases, reports, sets_mark, goes_back, raises, asks, asks_why, shows, lists, closes};
-ghost use Rattle.scm_book.specs.Machine.{empty_machine, trace_names};
+ghost use Rattle.scm_book.specs.Machine.{trace_names};
+ghost use Rattle.scm_book.specs.Sets.{machine_in, sets_in, HasRoom, HasRoomFor, HoldsFor, IfDone, HasNewSet, CutsSet, SearchesSet, LeavesSets};
 ghost use Rattle.scm_book.specs.Steps.{IsStepOrNoMemory};
+
+mod working;
 
 use crate::open_trace::OpenTrace;
 use crate::{Call, Decl, Reply};
 use indexmap::IndexMap;
 use scm_cells::Name;
+use scm_frontier::Steps;
 use scm_lowering::Access;
 use scm_sequences::{MOST_TRACES, NoMemory, Refusal};
 use std::alloc::Global;
 use std::marker::Model;
 
-/// The open traces, by name, in the order of their opening. Contracts see the machine.
+/// The open traces, by name, in the order of their opening, each with the set that is kept for it.
 ///
 /// A session is a number that the caller gives. Each call answers what the machine answers, or `Refused(NoMemory)` with
 /// the machine as it was.
@@ -24,17 +30,18 @@ pub(crate) struct Traces {
 }
 
 impl Model for Traces {
-    ghost use Rattle.scm_book.specs.Machine.{Machine};
+    ghost use Rattle.std.specs.Prelude.{ℕ, List};
+    ghost use Rattle.scm_book.specs.Sets.{KeptTrace};
 
-    ghost Value = { Machine };
+    ghost Value = { List (List ℕ × KeptTrace) };
 
-    ghost view = { λ t. record { traces = t.traces.entries } };
+    ghost view = { λ t. t.traces.entries };
 }
 
 impl Traces {
     /// No traces.
     pub(crate) fn new(alloc: Global) -> Traces
-        ensures { result ≡ empty_machine }
+        ensures { result ≡ [] }
     {
         Traces {
             alloc,
@@ -43,7 +50,8 @@ impl Traces {
     }
 
     fn open(&mut self, session: u16, name: Name, procs: u64, budget: u64, cells: &[Decl]) -> Reply
-        ensures { IsStepOrNoMemory self.old session (opens name procs budget cells.now) (reply_data result) self.new }
+        ensures step { IsStepOrNoMemory (machine_in self.old) session (opens name procs budget cells.now) (reply_data result) (machine_in self.new) }
+        ensures sets { IfDone (reply_data result) (HasNewSet (sets_in self.old) name (sets_in self.new)) (sets_in self.new ≡ sets_in self.old) }
     {
         let trace = match OpenTrace::new(self.alloc, session, procs, budget, cells) {
             Ok(trace) => trace,
@@ -62,7 +70,8 @@ impl Traces {
     }
 
     fn claim(&mut self, session: u16, name: Name, process: u64) -> Reply
-        ensures { IsStepOrNoMemory self.old session (claims name process) (reply_data result) self.new }
+        ensures step { IsStepOrNoMemory (machine_in self.old) session (claims name process) (reply_data result) (machine_in self.new) }
+        ensures sets { sets_in self.new ≡ sets_in self.old }
     {
         let Some(trace) = self.traces.get_mut(&name) else {
             return Reply::Refused(Refusal::NoSuchTrace);
@@ -74,7 +83,8 @@ impl Traces {
     }
 
     fn release(&mut self, session: u16, name: Name, process: u64) -> Reply
-        ensures { IsStepOrNoMemory self.old session (releases name process) (reply_data result) self.new }
+        ensures step { IsStepOrNoMemory (machine_in self.old) session (releases name process) (reply_data result) (machine_in self.new) }
+        ensures sets { sets_in self.new ≡ sets_in self.old }
     {
         let Some(trace) = self.traces.get_mut(&name) else {
             return Reply::Refused(Refusal::NoSuchTrace);
@@ -86,7 +96,8 @@ impl Traces {
     }
 
     fn report(&mut self, session: u16, name: Name, process: u64, access: &Access) -> Reply
-        ensures { IsStepOrNoMemory self.old session (reports name process access.now) (reply_data result) self.new }
+        ensures step { IsStepOrNoMemory (machine_in self.old) session (reports name process access.now) (reply_data result) (machine_in self.new) }
+        ensures sets { sets_in self.new ≡ sets_in self.old }
     {
         let Some(trace) = self.traces.get_mut(&name) else {
             return Reply::Refused(Refusal::NoSuchTrace);
@@ -98,7 +109,8 @@ impl Traces {
     }
 
     fn mark(&mut self, session: u16, name: Name) -> Reply
-        ensures { IsStepOrNoMemory self.old session (sets_mark name) (reply_data result) self.new }
+        ensures step { IsStepOrNoMemory (machine_in self.old) session (sets_mark name) (reply_data result) (machine_in self.new) }
+        ensures sets { sets_in self.new ≡ sets_in self.old }
     {
         let Some(trace) = self.traces.get_mut(&name) else {
             return Reply::Refused(Refusal::NoSuchTrace);
@@ -110,7 +122,8 @@ impl Traces {
     }
 
     fn back(&mut self, session: u16, name: Name, mark: u64) -> Reply
-        ensures { IsStepOrNoMemory self.old session (goes_back name mark) (reply_data result) self.new }
+        ensures step { IsStepOrNoMemory (machine_in self.old) session (goes_back name mark) (reply_data result) (machine_in self.new) }
+        ensures sets { IfDone (reply_data result) (CutsSet (machine_in self.old) (sets_in self.old) name mark (sets_in self.new)) (sets_in self.new ≡ sets_in self.old) }
     {
         let Some(trace) = self.traces.get_mut(&name) else {
             return Reply::Refused(Refusal::NoSuchTrace);
@@ -122,7 +135,8 @@ impl Traces {
     }
 
     fn raise(&mut self, session: u16, name: Name, budget: u64) -> Reply
-        ensures { IsStepOrNoMemory self.old session (raises name budget) (reply_data result) self.new }
+        ensures step { IsStepOrNoMemory (machine_in self.old) session (raises name budget) (reply_data result) (machine_in self.new) }
+        ensures sets { sets_in self.new ≡ sets_in self.old }
     {
         let Some(trace) = self.traces.get_mut(&name) else {
             return Reply::Refused(Refusal::NoSuchTrace);
@@ -133,32 +147,37 @@ impl Traces {
         }
     }
 
-    fn ask(&mut self, session: u16, name: Name, mark: Option<u64>) -> Reply
-        ensures { IsStepOrNoMemory self.old session (asks name mark) (reply_data result) self.new }
+    fn ask(&mut self, session: u16, name: Name, mark: Option<u64>, steps: &mut Steps) -> Reply
+        requires room { HasRoomFor (machine_in self.old) name steps.old }
+        ensures step { IsStepOrNoMemory (machine_in self.old) session (asks name mark) (reply_data result) (machine_in self.new) }
+        ensures sets { SearchesSet (machine_in self.old) (sets_in self.old) name mark (reply_data result) steps.old steps.new (sets_in self.new) }
     {
         let Some(trace) = self.traces.get_mut(&name) else {
             return Reply::Refused(Refusal::NoSuchTrace);
         };
-        match trace.ask(self.alloc, mark) {
+        match trace.ask(self.alloc, mark, steps) {
             Ok(verdict) => verdict,
             Err(refusal) => Reply::Refused(refusal),
         }
     }
 
-    fn why(&mut self, session: u16, name: Name, mark: Option<u64>) -> Reply
-        ensures { IsStepOrNoMemory self.old session (asks_why name mark) (reply_data result) self.new }
+    fn why(&mut self, session: u16, name: Name, mark: Option<u64>, steps: &mut Steps) -> Reply
+        requires room { HasRoomFor (machine_in self.old) name steps.old }
+        ensures step { IsStepOrNoMemory (machine_in self.old) session (asks_why name mark) (reply_data result) (machine_in self.new) }
+        ensures sets { SearchesSet (machine_in self.old) (sets_in self.old) name mark (reply_data result) steps.old steps.new (sets_in self.new) }
     {
         let Some(trace) = self.traces.get_mut(&name) else {
             return Reply::Refused(Refusal::NoSuchTrace);
         };
-        match trace.why(self.alloc, mark) {
+        match trace.why(self.alloc, mark, steps) {
             Ok(verdict) => verdict,
             Err(refusal) => Reply::Refused(refusal),
         }
     }
 
     fn show(&mut self, session: u16, name: Name, process: u64) -> Reply
-        ensures { IsStepOrNoMemory self.old session (shows name process) (reply_data result) self.new }
+        ensures step { IsStepOrNoMemory (machine_in self.old) session (shows name process) (reply_data result) (machine_in self.new) }
+        ensures sets { sets_in self.new ≡ sets_in self.old }
     {
         let Some(trace) = self.traces.get(&name) else {
             return Reply::Refused(Refusal::NoSuchTrace);
@@ -171,13 +190,14 @@ impl Traces {
 
     /// The names of the traces, in the order of their opening.
     fn names(&self) -> Result<Vec<Name>, NoMemory>
-        ensures { IfOk result (λ names. names.items ≡ trace_names self.now) }
+        ensures { IfOk result (λ names. names.items ≡ trace_names (machine_in self.now)) }
     {
         Ok(self.traces.keys().copied().collect(self.alloc)?)
     }
 
     fn list(&mut self, session: u16) -> Reply
-        ensures { IsStepOrNoMemory self.old session lists (reply_data result) self.new }
+        ensures step { IsStepOrNoMemory (machine_in self.old) session lists (reply_data result) (machine_in self.new) }
+        ensures sets { sets_in self.new ≡ sets_in self.old }
     {
         match self.names() {
             Ok(names) => Reply::Traces(names),
@@ -186,7 +206,8 @@ impl Traces {
     }
 
     fn close(&mut self, session: u16, name: Name) -> Reply
-        ensures { IsStepOrNoMemory self.old session (closes name) (reply_data result) self.new }
+        ensures step { IsStepOrNoMemory (machine_in self.old) session (closes name) (reply_data result) (machine_in self.new) }
+        ensures sets { IfDone (reply_data result) (sets_in self.new ≡ remove_entry (name_eq name) (sets_in self.old)) (sets_in self.new ≡ sets_in self.old) }
     {
         let Some(trace) = self.traces.get(&name) else {
             return Reply::Refused(Refusal::NoSuchTrace);
@@ -198,9 +219,42 @@ impl Traces {
         Reply::Done
     }
 
+    /// Whether the counter has room for the steps of a question about the trace of this name. A new one always has.
+    pub(crate) fn has_room(&self, name: &Name, steps: &Steps) -> bool
+        ensures exact { IsTrue result ↔ HasRoomFor (machine_in self.now) name.now steps.now }
+        ensures new { steps.now ≡ 0 → IsTrue result }
+    {
+        match self.traces.get(name) {
+            Some(trace) => steps.made() <= u64::MAX - trace.most_steps(),
+            None => true,
+        }
+    }
+
+    /// How many situations are kept for the trace of this name, if it is there.
+    pub(crate) fn held(&self, name: &Name) -> Option<usize>
+        ensures { HoldsFor (machine_in self.now) (sets_in self.now) name.now result }
+    {
+        Some(self.traces.get(name)?.held())
+    }
+
+    /// A new counter, which has room for the steps of any call.
+    pub(crate) fn new_counter(&self, call: &Call) -> Steps
+        ensures new { result ≡ 0 }
+        ensures room { HasRoom (machine_in self.now) (call_data call.now) result }
+    {
+        let steps = Steps::new();
+        match call {
+            Call::Ask { name, .. } | Call::Why { name, .. } => prove!(self.has_room(name, &steps)),
+            _ => {}
+        }
+        steps
+    }
+
     /// Makes a call of a session.
-    pub(crate) fn call(&mut self, session: u16, call: &Call) -> Reply
-        ensures { IsStepOrNoMemory self.old session (call_data call.now) (reply_data result) self.new }
+    pub(crate) fn call(&mut self, session: u16, call: &Call, steps: &mut Steps) -> Reply
+        requires room { HasRoom (machine_in self.old) (call_data call.now) steps.old }
+        ensures step { IsStepOrNoMemory (machine_in self.old) session (call_data call.now) (reply_data result) (machine_in self.new) }
+        ensures sets { LeavesSets (machine_in self.old) (sets_in self.old) (call_data call.now) (reply_data result) steps.old steps.new (sets_in self.new) }
     {
         match call {
             Call::OpenTrace {
@@ -219,8 +273,8 @@ impl Traces {
             Call::SetMark { name } => self.mark(session, *name),
             Call::GoBack { name, mark } => self.back(session, *name, *mark),
             Call::RaiseBudget { name, budget } => self.raise(session, *name, *budget),
-            Call::Ask { name, mark } => self.ask(session, *name, *mark),
-            Call::Why { name, mark } => self.why(session, *name, *mark),
+            Call::Ask { name, mark } => self.ask(session, *name, *mark, steps),
+            Call::Why { name, mark } => self.why(session, *name, *mark, steps),
             Call::ShowOps { name, process } => self.show(session, *name, *process),
             Call::ListTraces => self.list(session),
             Call::CloseTrace { name } => self.close(session, *name),

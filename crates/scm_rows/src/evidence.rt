@@ -31,7 +31,11 @@ pub(crate) fn check_evidence(rt: &impl Abort, alloc: Global, entries: &[Entry]) 
                 check_at(rt, alloc, earlier, *name, *mark, &entry.reply);
             }
             Reply::Inconsistent => {
-                let refutation = book_after(rt, alloc, earlier).why(CHECKER, *name, *mark);
+                let why = Call::Why {
+                    name: *name,
+                    mark: *mark,
+                };
+                let refutation = book_after(rt, alloc, earlier).call(CHECKER, why);
                 assert!(rt; matches!(refutation, Reply::Because(_)));
                 check_at(rt, alloc, earlier, *name, *mark, &refutation);
             }

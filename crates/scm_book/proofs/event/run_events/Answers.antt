@@ -1,4 +1,5 @@
-use Rattle.std.proofs.Common.{◌≡◌, List, [], ◌∷◌, ◌++◌, length, map, map-id, ap, ◌∙◌, sym, subst, rules}
+use Rattle.std.proofs.Common.{◌≡◌, List, [], ◌∷◌, ◌++◌, length, map, map-id, sym, subst, rules}
+use Rattle.std.specs.Option.{option_map}
 use Rattle.std.specs.Vec.{vec_capacity}
 use Rattle.std.proofs.lemmas.List.{map-append}
 use Rattle.std.proofs.lemmas.Iterator.Consumers.{YieldsList-end}
@@ -10,13 +11,11 @@ use Rattle.scm_book.proofs.event.run_events.Goals as goal
 
 pub loop-event-preserved : goal.loop-event-preserved
 loop-event-preserved c =
-    let replies : map reply_data c.push.new.self.items ≡ map reply_data c.loop-event.replies.items ++ reply_data c.answer.result ∷ [] =
-    ap (map reply_data) (rw c.unwrap.ensures at c.push.ensures.items) ∙ map-append reply_data c.loop-event.replies.items _ in
     let events : map event_data (c.loop-event.yielded ++ c.in-Some.event ∷ []) ≡ map event_data c.loop-event.yielded ++ event_data c.in-Some.event ∷ [] =
     map-append event_data c.loop-event.yielded _ in
-    subst (λ (l : List EventData × List ReplyData). HasAnswered c.args.book l.0 l.1 c.answer.new.book (length c.args.events.items) (vec_capacity c.push.new.self)) (λ i. (sym events i, sym replies i))
-    (HasAnswered-more c.args.book c.loop-event.book c.answer.new.book (map event_data c.loop-event.yielded) (map reply_data c.loop-event.replies.items) (event_data c.in-Some.event) (reply_data c.answer.result) _
-    (vec_capacity c.loop-event.replies) _ c.loop-event.invariant c.answer.ensures.answered c.push.ensures.capacity)
+    subst (λ (l : List EventData × List ReplyData). HasAnswered c.args.book l.0 l.1 c.answer.new.book (length c.args.events.items) (vec_capacity c.add_reply.new.replies)) (λ i. (sym events i, sym c.add_reply.ensures.items i))
+    (HasAnswered-more c.args.book c.loop-event.book c.answer.new.book (map event_data c.loop-event.yielded) (map reply_data c.loop-event.replies.items) (event_data c.in-Some.event) (option_map reply_data c.answer.result) _
+    (vec_capacity c.loop-event.replies) _ c.loop-event.invariant c.answer.ensures.answered c.add_reply.ensures.capacity)
 
 pub returns-clause-machine : goal.returns-clause-machine
 returns-clause-machine c =

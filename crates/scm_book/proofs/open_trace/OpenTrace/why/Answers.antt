@@ -1,20 +1,32 @@
-use Rattle.std.proofs.Common.{ap, subst}
+use Rattle.std.proofs.Common.{ap, length, subst, ◌∙◌}
+use Rattle.scm_sequences.specs.SequenceLaws.{length-lengths_of}
 use Rattle.scm_sequences.specs.Traces.{trace_of, cut_to}
 use Rattle.scm_book.specs.Calls.{reply_data}
 use Rattle.scm_book.specs.Refusals.{question_cause}
+use Rattle.scm_book.specs.Sets.{KeptTrace}
 use Rattle.scm_book.specs.Verdicts.{Fits}
-use Rattle.scm_book.proofs.Questions.{about_present}
+use Rattle.scm_book.proofs.Questions.{about_present, room_at}
 use Rattle.scm_book.proofs.Sounding.{IsWithin-mark}
 use Rattle.scm_book.proofs.open_trace.OpenTrace.why.Goals as goal
 
 pub returns-in_default-clause-ok : goal.returns-in_default-clause-ok
 returns-in_default-clause-ok c = (
-  ap (question_cause c.args.self.now) c.in_default.is,
+  ap (question_cause c.args.self.now.state) c.in_default.is,
   (
-    about_present (λ t budget. Fits t budget (reply_data c.in_ok-explanation.field-0)) _ c.args.self.now c.args.mark c.limit-limit.result c.lengths-lengths.result c.self.view_is c.in_default.is c.limit-limit.ensures.limit c.lengths-lengths.ensures (subst (λ i. Fits (cut_to (trace_of i c.self.inside.sequences) c.lengths-lengths.result) c.limit-limit.result (reply_data c.in_ok-explanation.field-0)) c.self.invariant.1.initials c.in_ok-explanation.ensures.fits),
+    about_present (λ t budget. Fits t budget (reply_data c.in_ok-explanation.field-0)) _ c.args.self.now.state c.args.mark c.limit-limit.result c.lengths-lengths.result (ap (λ (k : KeptTrace). k.state) c.self.view_is) c.in_default.is c.limit-limit.ensures.limit c.lengths-lengths.ensures (subst (λ i. Fits (cut_to (trace_of i c.self.inside.sequences) c.lengths-lengths.result) c.limit-limit.result (reply_data c.in_ok-explanation.field-0)) c.self.invariant.1.initials c.in_ok-explanation.ensures.fits),
     c.in_ok-explanation.ensures.refuted,
   ),
 )
 
 pub explanation-requires-2-clause-within : goal.explanation-requires-2-clause-within
 explanation-requires-2-clause-within c = IsWithin-mark _ c.in-Some.mark c.in_ok-lengths.lengths.now c.self.invariant.0 c.in_ok-lengths.ensures
+
+pub explanation-requires-clause-counter : goal.explanation-requires-clause-counter
+explanation-requires-clause-counter c =
+    room_at _ c.args.self.now.state c.args.steps.now c.limit-limit.result c.lengths-lengths.result (ap (λ (k : KeptTrace). k.state) c.self.view_is) c.limit-limit.ensures.limit
+    (ap length c.lengths-lengths.ensures ∙ length-lengths_of c.self.inside.sequences) c.requires.room
+
+pub explanation-requires-2-clause-counter : goal.explanation-requires-2-clause-counter
+explanation-requires-2-clause-counter c =
+    room_at _ c.args.self.now.state c.args.steps.now c.limit-limit.result c.in_ok-lengths.lengths.now (ap (λ (k : KeptTrace). k.state) c.self.view_is) c.limit-limit.ensures.limit
+    ((IsWithin-mark _ c.in-Some.mark c.in_ok-lengths.lengths.now c.self.invariant.0 c.in_ok-lengths.ensures).procs ∙ length-lengths_of c.self.inside.sequences) c.requires.room

@@ -1,25 +1,38 @@
 use Rattle.std.proofs.Common.{◌≡◌, None, Some, ap, ◌∙◌, sym, refl, inl}
 use Rattle.std.specs.Option.{option_copied_mut}
+use Rattle.std.specs.Map.{lookup}
+use Rattle.scm_cells.specs.Names.{name_eq}
 use Rattle.scm_book.specs.Machine.{trace_named, with_trace}
+use Rattle.scm_book.specs.Sets.{machine_in}
 use Rattle.scm_book.proofs.Answering.{absent, there_refused, there_done}
-use Rattle.scm_book.proofs.Entries.{trace_named-lookup, machine-same, machine-set_value, machine-set_same}
+use Rattle.scm_book.proofs.Entries.{state_of, trace_named-lookup, machine-same, machine-set_value, machine-set_same, sets-same, sets-set_same}
 use Rattle.scm_book.proofs.traces.Traces.claim.Goals as goal
 use Rattle.scm_book.proofs.traces.Traces.claim.Goals.{in-Ok, in-Err}
 
-pub returns-in_default : goal.returns-in_default
-returns-in_default c =
-    absent c.args.self.now _ c.args.name _ _
+pub returns-in_default-clause-step : goal.returns-in_default-clause-step
+returns-in_default-clause-step c =
+    absent (machine_in c.args.self.now) _ c.args.name _ _
     (trace_named-lookup c.args.self.now c.self.inside.traces.entries c.self.view_is c.args.name None (sym (ap option_copied_mut c.in_default.is) ∙ c.get_mut.ensures.value))
     (machine-same c.args.self.now c.self.inside.traces.entries c.self.view_is c.args.name _ (ap (λ m. m.entries) c.get_mut.follows.holds-at-none))
 
-pub returns : goal.returns
-returns c =
-    let found : trace_named c.args.self.now c.args.name ≡ Some c.in-Some.trace.now =
-    trace_named-lookup c.args.self.now c.self.inside.traces.entries c.self.view_is c.args.name (Some c.in-Some.trace.now) (sym (ap option_copied_mut c.in-Some.is) ∙ c.get_mut.ensures.value) in
+pub returns-in_default-clause-sets : goal.returns-in_default-clause-sets
+returns-in_default-clause-sets c = sets-same c.args.self.now c.self.inside.traces.entries c.self.view_is c.args.name _ (ap (λ m. m.entries) c.get_mut.follows.holds-at-none)
+
+pub returns-clause-step : goal.returns-clause-step
+returns-clause-step c =
+    let looked : Some c.in-Some.trace.now ≡ lookup (name_eq c.args.name) c.self.inside.traces.entries = sym (ap option_copied_mut c.in-Some.is) ∙ c.get_mut.ensures.value in
+    let found : trace_named (machine_in c.args.self.now) c.args.name ≡ Some c.in-Some.trace.now.state =
+    trace_named-lookup c.args.self.now c.self.inside.traces.entries c.self.view_is c.args.name (Some c.in-Some.trace.now) looked in
     let new = (c.get_mut.follows.holds c.claim.new.self).0 in
     elim c.match-claim.branch [
-      | in-Ok w ↦ rw w.result-is (there_done c.args.self.now _ c.args.name _ c.in-Some.trace.now found _ _ w.in-Ok.ensures.ok.0
-          (refl, machine-set_value c.args.self.now c.self.inside.traces.entries c.self.view_is c.args.name c.in-Some.trace.now c.claim.new.self _ found new ∙ ap (with_trace c.args.self.now c.args.name) w.in-Ok.ensures.ok.1))
-      | in-Err w ↦ rw w.result-is (there_refused c.args.self.now _ c.args.name _ c.in-Some.trace.now found w.in-Err.refusal _ (inl w.in-Err.ensures.err)
-          (machine-set_same c.args.self.now c.self.inside.traces.entries c.self.view_is c.args.name c.in-Some.trace.now c.claim.new.self _ found w.in-Err.ensures.unchanged new))
+      | in-Ok w ↦ rw w.result-is (there_done (machine_in c.args.self.now) _ c.args.name _ c.in-Some.trace.now.state found _ _ w.in-Ok.ensures.ok.0
+          (refl, machine-set_value c.args.self.now c.self.inside.traces.entries c.self.view_is c.args.name c.in-Some.trace.now c.claim.new.self _ looked new ∙ ap (with_trace (machine_in c.args.self.now) c.args.name) w.in-Ok.ensures.ok.1))
+      | in-Err w ↦ rw w.result-is (there_refused (machine_in c.args.self.now) _ c.args.name _ c.in-Some.trace.now.state found w.in-Err.refusal _ (inl w.in-Err.ensures.err)
+          (machine-set_same c.args.self.now c.self.inside.traces.entries c.self.view_is c.args.name c.in-Some.trace.now c.claim.new.self _ looked new (ap state_of w.in-Err.ensures.unchanged)))
     ]
+
+pub returns-clause-sets : goal.returns-clause-sets
+returns-clause-sets c =
+    let looked : Some c.in-Some.trace.now ≡ lookup (name_eq c.args.name) c.self.inside.traces.entries = sym (ap option_copied_mut c.in-Some.is) ∙ c.get_mut.ensures.value in
+    let new = (c.get_mut.follows.holds c.claim.new.self).0 in
+    sets-set_same c.args.self.now c.self.inside.traces.entries c.self.view_is c.args.name c.in-Some.trace.now c.claim.new.self _ looked new c.claim.ensures.set

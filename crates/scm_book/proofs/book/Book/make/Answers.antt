@@ -1,0 +1,101 @@
+use Rattle.std.proofs.Common.{◌≡◌, false, is_ok, refl, ap, ◌∙◌, ap₂, sym, subst}
+use Rattle.scm_sequences.specs.declared.refusal.Refusal.TheVariants.{JournalFull, NoMemory}
+use Rattle.scm_book.specs.Calls.{call_data, reply_data, refused}
+use Rattle.scm_book.specs.Changes.{tells_of_change}
+use Rattle.scm_book.specs.Journal.{BookState, IsCall, IsLegalHistory, entered}
+use Rattle.scm_book.specs.Sets.{machine_in, sets_in, LeavesSets}
+use Rattle.scm_book.specs.Steps.{IsStep}
+use Rattle.scm_book.proofs.Changing.{machine-kept}
+use Rattle.scm_book.proofs.Calling.{IsLegalHistory-more, IsLegalHistory-same, call-full, call-no_memory, call-no_entry, call-entered, step-from_entry, untold}
+use Rattle.scm_book.proofs.Leaving.{leaves_idle, leaves_uncopied}
+use Rattle.scm_book.proofs.book.Book.make.Goals as goal
+
+-- ---- refused before the machine was asked
+
+pub returns-then-is_full-clause-sets : goal.returns-then-is_full-clause-sets
+returns-then-is_full-clause-sets c =
+    subst (λ (b : BookState). LeavesSets b.machine b.sets (call_data c.args.call) (refused JournalFull) c.args.steps.now c.args.steps.now b.sets) c.self.view_is
+    (leaves_idle c.self.inside.traces (call_data c.args.call) JournalFull c.args.steps.now)
+
+pub returns-then-is_full-clause-called : goal.returns-then-is_full-clause-called
+returns-then-is_full-clause-called c =
+    subst (λ (b : BookState). IsCall b c.args.session (call_data c.args.call) (refused JournalFull) b) c.self.view_is
+    (call-full (record { journal = c.self.inside.journal.entries; machine = machine_in c.self.inside.traces; sets = sets_in c.self.inside.traces; results = c.self.inside.results }) _ c.args.session (call_data c.args.call) c.args.steps.now c.args.steps.now
+    (sym c.if-is_full.ensures) (record { journal = refl; machine = refl }) refl refl (leaves_idle c.self.inside.traces (call_data c.args.call) JournalFull c.args.steps.now))
+
+pub returns-then-is_err-clause-sets : goal.returns-then-is_err-clause-sets
+returns-then-is_err-clause-sets c =
+    subst (λ (b : BookState). LeavesSets b.machine b.sets (call_data c.args.call) (refused NoMemory) c.args.steps.now c.args.steps.now (sets_in c.self.inside.traces)) c.self.view_is
+    (leaves_idle c.self.inside.traces (call_data c.args.call) NoMemory c.args.steps.now)
+
+pub returns-then-is_err-clause-called : goal.returns-then-is_err-clause-called
+returns-then-is_err-clause-called c =
+    subst (λ (b : BookState). IsCall b c.args.session (call_data c.args.call) (refused NoMemory) (record { journal = c.make_room.new.self.entries; machine = machine_in c.self.inside.traces; sets = sets_in c.self.inside.traces; results = c.self.inside.results })) c.self.view_is
+    (call-no_memory (record { journal = c.self.inside.journal.entries; machine = machine_in c.self.inside.traces; sets = sets_in c.self.inside.traces; results = c.self.inside.results }) _ c.args.session (call_data c.args.call) c.args.steps.now c.args.steps.now
+    (sym c.if-is_full.ensures) (record { journal = c.make_room.ensures.entries; machine = refl }) refl (leaves_idle c.self.inside.traces (call_data c.args.call) NoMemory c.args.steps.now))
+
+-- ---- answered
+
+pub returns-then-not-makes_entry-clause-called : goal.returns-then-not-makes_entry-clause-called
+returns-then-not-makes_entry-clause-called c =
+    subst (λ (b : BookState). IsCall b c.args.session (call_data c.args.call) (reply_data c.call-reply.result) (record { journal = c.make_room.new.self.entries; machine = machine_in c.call-reply.new.self; sets = sets_in c.call-reply.new.self; results = c.self.inside.results })) c.self.view_is
+    (call-no_entry (record { journal = c.self.inside.journal.entries; machine = machine_in c.self.inside.traces; sets = sets_in c.self.inside.traces; results = c.self.inside.results }) _ c.args.session (call_data c.args.call) (reply_data c.call-reply.result) _ _
+    (sym c.if-is_full.ensures) c.call-reply.ensures.step (sym c.if-not-makes_entry.ensures) c.make_room.ensures.entries refl c.call-reply.ensures.sets)
+
+still : (c : goal.Joined-call-4) → tells_of_change (reply_data c.call-reply.result) ≡ false
+still c = untold (reply_data c.call-reply.result) (is_ok c.copy.result) c.copy.ensures.light (ap is_ok c.in_default.is)
+
+kept : (c : goal.Joined-call-4) → machine_in c.call-reply.new.self ≡ machine_in c.self.inside.traces
+kept c = machine-kept _ _ c.args.session (call_data c.args.call) (reply_data c.call-reply.result) c.call-reply.ensures.step (still c)
+
+pub invariant_of-self-in_default : goal.invariant_of-self-in_default
+invariant_of-self-in_default c = IsLegalHistory-same _ _ _ _ c.make_room.ensures.entries (kept c) c.self.invariant
+
+uncopied : (c : goal.Joined-call-4) → LeavesSets (machine_in c.self.inside.traces) (sets_in c.self.inside.traces) (call_data c.args.call) (refused NoMemory) c.args.steps.now c.call-reply.new.steps (sets_in c.call-reply.new.self)
+uncopied c = leaves_uncopied _ _ _ (call_data c.args.call) (reply_data c.call-reply.result) _ _ (still c) c.call-reply.ensures.sets
+
+pub returns-in_default-clause-sets : goal.returns-in_default-clause-sets
+returns-in_default-clause-sets c =
+    subst (λ (b : BookState). LeavesSets b.machine b.sets (call_data c.args.call) (refused NoMemory) c.args.steps.now c.call-reply.new.steps (sets_in c.call-reply.new.self)) c.self.view_is (uncopied c)
+
+pub returns-in_default-clause-called : goal.returns-in_default-clause-called
+returns-in_default-clause-called c =
+    subst (λ (b : BookState). IsCall b c.args.session (call_data c.args.call) (refused NoMemory) (record { journal = c.make_room.new.self.entries; machine = machine_in c.call-reply.new.self; sets = sets_in c.call-reply.new.self; results = c.self.inside.results })) c.self.view_is
+    (call-no_memory (record { journal = c.self.inside.journal.entries; machine = machine_in c.self.inside.traces; sets = sets_in c.self.inside.traces; results = c.self.inside.results }) _ c.args.session (call_data c.args.call) _ _
+    (sym c.if-is_full.ensures) (record { journal = c.make_room.ensures.entries; machine = kept c }) refl (uncopied c))
+
+pub returns-in_default-clause-legal : goal.returns-in_default-clause-legal
+returns-in_default-clause-legal c = IsLegalHistory-same _ _ _ _ c.make_room.ensures.entries (kept c) c.self.invariant
+
+pub returns-in_default-clause-kept : goal.returns-in_default-clause-kept
+returns-in_default-clause-kept c = λ _. kept c ∙ ap (λ (b : BookState). b.machine) c.self.view_is
+
+-- ---- entered
+
+entered_as : (c : goal.After-enter) → c.enter.new.self.entries ≡ entered c.self.inside.journal.entries c.args.session (call_data c.args.call) (reply_data c.call-reply.result)
+entered_as c = c.enter.ensures ∙ ap₂ (λ entries r. entered entries c.args.session (call_data c.args.call) r) c.make_room.ensures.entries c.in-Ok.ensures.copy
+
+step : (c : goal.After-enter) → IsStep (machine_in c.self.inside.traces) c.args.session (call_data c.args.call) (reply_data c.call-reply.result) (machine_in c.call-reply.new.self)
+step c = step-from_entry (machine_in c.self.inside.traces) (machine_in c.call-reply.new.self) c.args.session (call_data c.args.call) (reply_data c.call-reply.result) c.call-reply.ensures.step (sym c.if-not-makes_entry.ensures)
+
+entered_history : (c : goal.After-enter) → IsLegalHistory c.enter.new.self.entries (machine_in c.call-reply.new.self)
+entered_history c =
+    subst (λ journal. IsLegalHistory journal (machine_in c.call-reply.new.self)) (sym (entered_as c))
+    (IsLegalHistory-more c.self.inside.journal.entries (machine_in c.self.inside.traces) (machine_in c.call-reply.new.self) c.args.session (call_data c.args.call) (reply_data c.call-reply.result) (sym c.if-is_full.ensures) c.self.invariant (step c))
+
+pub invariant_of-self-2 : goal.invariant_of-self-2
+invariant_of-self-2 c = entered_history c
+
+pub returns-clause-legal : goal.returns-clause-legal
+returns-clause-legal c = entered_history c
+
+pub returns-clause-kept : goal.returns-clause-kept
+returns-clause-kept c = λ told.
+    machine-kept (machine_in c.self.inside.traces) (machine_in c.call-reply.new.self) c.args.session (call_data c.args.call) (reply_data c.call-reply.result) c.call-reply.ensures.step told
+    ∙ ap (λ (b : BookState). b.machine) c.self.view_is
+
+pub returns-clause-called : goal.returns-clause-called
+returns-clause-called c =
+    subst (λ (b : BookState). IsCall b c.args.session (call_data c.args.call) (reply_data c.call-reply.result) (record { journal = c.enter.new.self.entries; machine = machine_in c.call-reply.new.self; sets = sets_in c.call-reply.new.self; results = c.self.inside.results })) c.self.view_is
+    (call-entered (record { journal = c.self.inside.journal.entries; machine = machine_in c.self.inside.traces; sets = sets_in c.self.inside.traces; results = c.self.inside.results }) _ c.args.session (call_data c.args.call) (reply_data c.call-reply.result) _ _
+    (sym c.if-is_full.ensures) (sym c.if-not-makes_entry.ensures) (step c) (entered_as c) refl c.call-reply.ensures.sets)

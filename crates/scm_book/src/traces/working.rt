@@ -1,0 +1,95 @@
+//! What workers take and deliver.
+ghost use Rattle.std.specs.Prelude.{◌≡◌, IsSomeAnd, MatchOption, MatchResult};
+ghost use Rattle.std.specs.Map.{lookup};
+ghost use Rattle.scm_cells.specs.Names.{name_eq};
+ghost use Rattle.scm_book.specs.Sets.{machine_in, sets_in};
+ghost use Rattle.scm_book.specs.Workers.{Offers, OffersNew, OffersNothing, OffersNothingNew, ComesFirst, Takes, Meets, Delivers};
+
+use super::Traces;
+use scm_cells::Name;
+use scm_expand::{Outcome, Task};
+use scm_results::{Fate, Results};
+use scm_sequences::NoMemory;
+
+impl Traces {
+    /// Takes at most `n` tasks, of one trace: at least one where `n` isn't 0 and some trace has a next operation that is
+    /// still to be looked at and room in its budget. A trace with such operations that weren't handed out comes first.
+    /// Unchanged where memory is refused.
+    pub(crate) fn take(&mut self, n: usize) -> Result<Vec<Task>, NoMemory>
+        ensures machine { machine_in self.new ≡ machine_in self.old }
+        ensures takes { MatchResult result (λ tasks. Takes (machine_in self.old) (sets_in self.old) n tasks.items (sets_in self.new)) (λ _. sets_in self.new ≡ sets_in self.old) }
+    {
+        if n == 0 {
+            return Ok(Vec::new(self.alloc));
+        }
+        let Some(name) = self.offering() else {
+            return Ok(Vec::new(self.alloc));
+        };
+        let trace = self.traces.get_mut(&name).unwrap();
+        trace.tasks(self.alloc, name, n)
+    }
+
+    /// The trace that tasks are taken of next.
+    fn offering(&self) -> Option<Name>
+        ensures { MatchOption result (OffersNothing (machine_in self.now) (sets_in self.now)) (λ name. IsSomeAnd (lookup (name_eq name) self.now) (λ k. ComesFirst (machine_in self.now) (sets_in self.now) k.state k.set)) }
+    {
+        match self.first_new() {
+            Some(name) => Some(name),
+            None => self.first(),
+        }
+    }
+
+    /// The first trace with operations to be looked at that weren't handed out, and room in its budget.
+    fn first_new(&self) -> Option<Name>
+        ensures { MatchOption result (OffersNothingNew (machine_in self.now) (sets_in self.now)) (λ name. IsSomeAnd (lookup (name_eq name) self.now) (λ k. OffersNew k.state k.set)) }
+    {
+        for place in 0..self.traces.len() {
+            let (name, _) = self.traces.get_index(place).unwrap();
+            if self
+                .traces
+                .get(name)
+                .is_some_and(|trace| trace.offers_new())
+            {
+                return Some(*name);
+            }
+        }
+        None
+    }
+
+    /// The first trace with operations to be looked at, and room in its budget.
+    fn first(&self) -> Option<Name>
+        ensures { MatchOption result (OffersNothing (machine_in self.now) (sets_in self.now)) (λ name. IsSomeAnd (lookup (name_eq name) self.now) (λ k. Offers k.state k.set)) }
+    {
+        for place in 0..self.traces.len() {
+            let (name, _) = self.traces.get_index(place).unwrap();
+            if self.traces.get(name).is_some_and(|trace| trace.offers()) {
+                return Some(*name);
+            }
+        }
+        None
+    }
+
+    /// Takes outcomes back, one after the other.
+    pub(crate) fn deliver(&mut self, outcomes: Vec<Outcome>) -> Results
+        ensures machine { machine_in self.new ≡ machine_in self.old }
+        ensures delivers { Delivers (machine_in self.old) (sets_in self.old) outcomes.items result (sets_in self.new) }
+    {
+        let mut delivered = Results::new();
+        for outcome in outcomes {
+            delivered.deliver(self.accept(outcome));
+        }
+        delivered
+    }
+
+    /// Takes an outcome back. Where its trace isn't there it is stale.
+    fn accept(&mut self, outcome: Outcome) -> Fate
+        ensures machine { machine_in self.new ≡ machine_in self.old }
+        ensures meets { Meets (machine_in self.old) (sets_in self.old) outcome result (sets_in self.new) }
+    {
+        let name = outcome.task().trace;
+        let Some(trace) = self.traces.get_mut(&name) else {
+            return Fate::Stale;
+        };
+        trace.accept(outcome)
+    }
+}
