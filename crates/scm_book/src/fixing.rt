@@ -1,7 +1,9 @@
 //! What cells must have held at first, each under its name.
 ghost use Rattle.std.specs.Prelude.{◌≡◌, ◌<◌, length, reverse, All, IfOk};
 ghost use Rattle.scm_sequences.specs.Traces.{trace_of};
-ghost use Rattle.scm_sequences.specs.Fronts.{IsLegal, fixed_values};
+ghost use Rattle.scm_sequences.specs.Fronts.{IsLegal};
+ghost use Rattle.scm_sequences.specs.FixedValues.{fixed_values};
+ghost use Rattle.scm_sequences.specs.Ops.{NamesCellsBelow};
 ghost use Rattle.scm_cells.specs.CellLists.{initials_of};
 ghost use Rattle.scm_book.specs.Showing.{cell_name};
 ghost use Rattle.scm_book.specs.Verdicts.{named_values};
@@ -44,7 +46,8 @@ pub(crate) fn fixed_names(
     sequences: &Sequences,
     front: &[u8],
 ) -> Result<Vec<(Name, u64)>, NoMemory>
-    requires { IsLegal (trace_of (initials_of cells.now) sequences.now) (reverse front.now) }
+    requires cells { NamesCellsBelow (length cells.now) sequences.now }
+    requires legal { IsLegal (trace_of (initials_of cells.now) sequences.now) (reverse front.now) }
     ensures { IfOk result (λ fixed. fixed.items ≡ named_values cells.now (fixed_values (trace_of (initials_of cells.now) sequences.now) (reverse front.now))) }
 {
     let initials = cells.initials()?;
