@@ -1,6 +1,6 @@
 -- The laws of unset cells: how a front fixes values place by place, and that the values that it fixes are just those
 -- under which it stays legal.
-use Rattle.std.proofs.Common.{ℕ, ◌≡◌, ◌≢◌, ◌<◌, ◌≤◌, ◌==◌, ◌↔◌, Bool, true, false, List, [], ◌∷◌, length, map, filter_map, Option, None, Some, is_none, IfSome, IsTrue, All, get_or, if◌then◌else◌, refl, sym, ap, ap₂, ◌∙◌, subst, ⊎_elim, arith}
+use Rattle.std.proofs.Common.{ℕ, ◌≡◌, ◌≢◌, ◌<◌, ◌≤◌, ◌↔◌, Bool, true, false, List, [], ◌∷◌, length, filter_map, Option, None, Some, is_none, IfSome, IsTrue, All, get_or, if◌then◌else◌, refl, sym, ap, ap₂, ◌∙◌, subst, ⊎_elim, arith}
 use Rattle.std.specs.Option.{option_or, option_map, option_and_then, unwrap_or}
 use Rattle.std.specs.List.{range_with_len, cons_option}
 use Rattle.std.proofs.lemmas.Bool.{cases_eq, cases_lt, eq-eqb, ne_eqb, eqb-true}
@@ -9,9 +9,9 @@ use Rattle.std.proofs.lemmas.List.FromFn.{length-range_with_len, get_or-range_wi
 use Rattle.std.proofs.lemmas.List.Elements.{All-nil, All-cons, All-head, All-tail}
 use Rattle.scm_sequences.specs.declared.op.Op.{Op}
 use Rattle.scm_sequences.specs.declared.op.Op.TheVariants.{R, W, Rw}
-use Rattle.scm_sequences.specs.Ops.{cell_of, read_of, written_to, may_give, finds}
+use Rattle.scm_sequences.specs.Ops.{cell_of, read_of, written_to, finds}
 use Rattle.scm_sequences.specs.Traces.{Trace, trace_of, initial_of}
-use Rattle.scm_sequences.specs.Fronts.{following, last_written, first_read, value_before, counts_of, IsLegal, IsSchedule, IsConsistent}
+use Rattle.scm_sequences.specs.Fronts.{following, last_written, first_read, value_before, IsLegal, IsConsistent}
 use Rattle.scm_sequences.specs.FrontLaws.{last_written-nil, last_written-step, first_read-nil, first_read-step, value_before-is, IsLegal-start, IsLegal-step, IsLegal-earlier, IsLegal-operation, IsLegal-finds, finds-same}
 use Rattle.scm_sequences.specs.FixedValues.{unwritten_read, fixed_value, fixed_values, given, Agrees}
 
@@ -41,10 +41,10 @@ unwritten_read-first t (p ∷ earlier) c none =
       before = rest (option_and_then (λ op. written_to op c) (following t earlier p)) (last_written t earlier c) (sym (last_written-step t p earlier c) ∙ none)
 
 pub fixed_value-nil : (t : Trace) (c : ℕ) → fixed_value t [] c ≡ None
-fixed_value-nil t c = ap (λ o. if is_none (initial_of t c) then o else None) (unwritten_read-nil t c) ∙ same (is_none (initial_of t c)) where
-  same : (b : Bool) → (if b then None {ℕ} else None) ≡ None
-  same true = refl
-  same false = refl
+fixed_value-nil t c = by (is_none (initial_of t c)) (unwritten_read t [] c) (unwritten_read-nil t c) where
+  by : (is_unset : Bool) (fixed : Option ℕ) → fixed ≡ None → (if is_unset then fixed else None) ≡ None
+  by true fixed is = is
+  by false fixed is = refl
 
 -- the parts of a value and of what is fixed, each by what was written last, held at first, and read first
 value_of_parts : Option ℕ → Option ℕ → Option ℕ → Option ℕ
@@ -60,10 +60,8 @@ fixed_value-step t p earlier c =
       by : (last initial first fixed read : Option ℕ) → (last ≡ None → fixed ≡ first)
           → (if is_none initial then option_or fixed (if is_none last then read else None) else None)
           ≡ option_or (if is_none initial then fixed else None) (if is_none (option_or last (option_or initial first)) then read else None)
-      by last (Some i) first fixed read same = by_known last where
-        by_known : (last : Option ℕ) → None {ℕ} ≡ (if is_none (option_or last (Some i)) then read else None)
-        by_known None = refl
-        by_known (Some w) = refl
+      by None (Some i) first fixed read same = refl
+      by (Some w) (Some i) first fixed read same = refl
       by (Some w) None first fixed read same = refl
       by None None None fixed read same = refl
       by None None (Some f) fixed read same = rw (same refl) refl
@@ -215,12 +213,9 @@ module _ (t : Trace) (chosen : ℕ → ℕ) where
   -- and a legal front that fixes the chosen values is legal where the values are given
   pub legal_given : (front : List ℕ) → IsLegal t front → ((c : ℕ) → c < length t.initials → IsKept t chosen front c) → IsLegal (given t chosen) front
   legal_given [] legal kept = IsLegal-start (given t chosen)
-  legal_given (p ∷ earlier) legal kept = go (IsLegal-operation t p earlier legal) where
-    before : (c : ℕ) → c < length t.initials → IsKept t chosen earlier c
-    before c h = kept_earlier p earlier c (kept c h)
-
-    go : (op : Op) × (following t earlier p ≡ Some op) → IsLegal (given t chosen) (p ∷ earlier)
-    go next = IsLegal-step (given t chosen) p earlier op (legal_given earlier (IsLegal-earlier t p earlier legal) before) next.1 (⊎_elim within past (cases_lt a (length t.initials))) where
+  legal_given (p ∷ earlier) legal kept = go (legal_given earlier (IsLegal-earlier t p earlier legal) (λ c h. kept_earlier p earlier c (kept c h))) (IsLegal-operation t p earlier legal) where
+    go : IsLegal (given t chosen) earlier → (op : Op) × (following t earlier p ≡ Some op) → IsLegal (given t chosen) (p ∷ earlier)
+    go before next = IsLegal-step (given t chosen) p earlier op before next.1 (⊎_elim within past (cases_lt a (length t.initials))) where
       op : Op
       op = next.0
 
@@ -237,7 +232,7 @@ module _ (t : Trace) (chosen : ℕ → ℕ) where
 
       within : a < length t.initials → IsTrue (finds op (value_before (given t chosen) earlier))
       within h =
-          finds-same op (value_before (given t chosen) earlier) (λ _. Some (unwrap_or (value_before t earlier a) (chosen a))) (value_before-given earlier a h (before a h))
+          finds-same op (value_before (given t chosen) earlier) (λ _. Some (unwrap_or (value_before t earlier a) (chosen a))) (value_before-given earlier a h (kept_earlier p earlier a (kept a h)))
           ∙ found_given op (value_before t earlier a) (sym (finds-same op (value_before t earlier) (λ _. value_before t earlier a) refl) ∙ found) (reads h)
 
       past : length t.initials ≤ a → IsTrue (finds op (value_before (given t chosen) earlier))
@@ -245,49 +240,48 @@ module _ (t : Trace) (chosen : ℕ → ℕ) where
 
 -- ---- lists of values
 
+All-cons_option : {Y : Type 0} (P : Y → Type 0) (o : Option Y) (ys : List Y) → IfSome o P → All P ys → All P (cons_option o ys)
+All-cons_option P None ys here rest = rest
+All-cons_option P (Some y) ys here rest = All-cons P y ys here rest
+
+All-from_cons_option : {Y : Type 0} (P : Y → Type 0) (o : Option Y) (ys : List Y) → All P (cons_option o ys) → IfSome o P × All P ys
+All-from_cons_option P None ys all = (tt, all)
+All-from_cons_option P (Some y) ys all = (All-head P y ys all, All-tail P y ys all)
+
 All-filter_map : {X Y : Type 0} (P : Y → Type 0) (h : X → Option Y) (xs : List X) → All (λ x. IfSome (h x) P) xs → All P (filter_map h xs)
 All-filter_map P h [] all = All-nil P
-All-filter_map P h (x ∷ xs) all = by (h x) (All-head (λ x. IfSome (h x) P) x xs all) where
-  rest : All P (filter_map h xs)
-  rest = All-filter_map P h xs (All-tail (λ x. IfSome (h x) P) x xs all)
-
-  by : (o : Option _) → IfSome o P → All P (cons_option o (filter_map h xs))
-  by None here = rest
-  by (Some y) here = All-cons P y (filter_map h xs) here rest
+All-filter_map P h (x ∷ xs) all =
+    All-cons_option P (h x) (filter_map h xs) (All-head (λ x. IfSome (h x) P) x xs all) (All-filter_map P h xs (All-tail (λ x. IfSome (h x) P) x xs all))
 
 All-from_filter_map : {X Y : Type 0} (P : Y → Type 0) (h : X → Option Y) (xs : List X) → All P (filter_map h xs) → All (λ x. IfSome (h x) P) xs
 All-from_filter_map P h [] all = All-nil (λ x. IfSome (h x) P)
-All-from_filter_map P h (x ∷ xs) all = by (h x) refl where
-  by : (o : Option _) → h x ≡ o → All (λ x. IfSome (h x) P) (x ∷ xs)
-  by None is = All-cons (λ x. IfSome (h x) P) x xs (subst (λ o. IfSome o P) (sym is) tt) (All-from_filter_map P h xs (subst (λ o. All P (cons_option o (filter_map h xs))) is all))
-  by (Some y) is =
-      let here : All P (y ∷ filter_map h xs) = subst (λ o. All P (cons_option o (filter_map h xs))) is all in
-      All-cons (λ x. IfSome (h x) P) x xs (subst (λ o. IfSome o P) (sym is) (All-head P y (filter_map h xs) here)) (All-from_filter_map P h xs (All-tail P y (filter_map h xs) here))
+All-from_filter_map P h (x ∷ xs) all =
+    All-cons (λ x. IfSome (h x) P) x xs (All-from_cons_option P (h x) (filter_map h xs) all).0 (All-from_filter_map P h xs (All-from_cons_option P (h x) (filter_map h xs) all).1)
 
 -- a choice agrees with what a front fixes exactly where it does for each cell
 module _ (t : Trace) (front : List ℕ) (chosen : ℕ → ℕ) where
-  item : ℕ → Option (ℕ × ℕ)
+  abbrev item : ℕ → Option (ℕ × ℕ)
   item c = option_map (λ value. (c, value)) (fixed_value t front c)
 
-  cells : List ℕ
+  abbrev cells : List ℕ
   cells = range_with_len 0 (length t.initials)
 
-  is_kept : (c : ℕ) (o : Option ℕ) → IfSome o (λ value. chosen c ≡ value) ↔ IfSome (option_map (λ value. (c, value)) o) (λ pair. chosen pair.0 ≡ pair.1)
+  is_kept : (c : ℕ) (o : Option ℕ) → IfSome o (λ value. chosen c ≡ value) ↔ IfSome {T = ℕ × ℕ} (option_map (λ value. (c, value)) o) (λ (pair : ℕ × ℕ). chosen pair.0 ≡ pair.1)
   is_kept c None = (λ h. h, λ h. h)
   is_kept c (Some v) = (λ h. h, λ h. h)
 
   pub Agrees-from_kept : ((c : ℕ) → c < length t.initials → IsKept t chosen front c) → Agrees chosen (fixed_values t front)
   Agrees-from_kept kept =
-      All-filter_map (λ pair. chosen pair.0 ≡ pair.1) item cells (λ k d h.
-          let within : k < length t.initials = subst (λ n. k < n) (length-range_with_len 0 (length t.initials)) h in
-          let here : get_or cells k d ≡ k = get_or-range_with_len 0 (length t.initials) k d within ∙ omega arith in
-          subst (λ c. IfSome (item c) (λ pair. chosen pair.0 ≡ pair.1)) (sym here) ((is_kept k (fixed_value t front k)).0 (kept k within)))
+      All-filter_map (λ (pair : ℕ × ℕ). chosen pair.0 ≡ pair.1) item cells (λ k d h.
+      let within : k < length t.initials = subst (λ n. k < n) (length-range_with_len 0 (length t.initials)) h in
+      let here : get_or cells k d ≡ k = get_or-range_with_len 0 (length t.initials) k d within ∙ omega arith in
+      subst (λ c. IfSome (item c) (λ (pair : ℕ × ℕ). chosen pair.0 ≡ pair.1)) (sym here) ((is_kept k (fixed_value t front k)).0 (kept k within)))
 
   pub kept_from_Agrees : Agrees chosen (fixed_values t front) → (c : ℕ) → c < length t.initials → IsKept t chosen front c
   kept_from_Agrees agrees c h =
       let in' : c < length cells = subst (λ n. c < n) (sym (length-range_with_len 0 (length t.initials))) h in
       let here : get_or cells c 0 ≡ c = get_or-range_with_len 0 (length t.initials) c 0 h ∙ omega arith in
-      (is_kept c (fixed_value t front c)).1 (subst (λ a. IfSome (item a) (λ pair. chosen pair.0 ≡ pair.1)) here (All-from_filter_map (λ pair. chosen pair.0 ≡ pair.1) item cells agrees c 0 in'))
+      (is_kept c (fixed_value t front c)).1 (subst (λ a. IfSome (item a) (λ (pair : ℕ × ℕ). chosen pair.0 ≡ pair.1)) here (All-from_filter_map (λ (pair : ℕ × ℕ). chosen pair.0 ≡ pair.1) item cells agrees c 0 in'))
 
 -- ---- the law
 
@@ -319,7 +313,7 @@ IsConsistent-given_some t = (
       let some = (IsLegal-given_some t consistent.schedule).0 consistent.is_schedule.legal in
       (some.0, record { schedule = consistent.schedule; is_schedule = record { legal = some.1; whole = consistent.is_schedule.whole } }),
   λ some. record {
-      schedule = some.1.schedule;
-      is_schedule = record { legal = ((IsLegal-given t some.1.schedule some.0).0 some.1.is_schedule.legal).0; whole = some.1.is_schedule.whole };
-    },
+    schedule = some.1.schedule;
+    is_schedule = record { legal = ((IsLegal-given t some.1.schedule some.0).0 some.1.is_schedule.legal).0; whole = some.1.is_schedule.whole };
+  },
 )
