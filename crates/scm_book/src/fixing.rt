@@ -10,7 +10,7 @@ ghost use Rattle.scm_book.specs.Verdicts.{named_values};
 
 use scm_cells::{Cells, Name};
 use scm_schedules::fixed;
-use scm_sequences::{NoMemory, Sequences};
+use scm_sequences::{MOST_CELLS, NoMemory, Sequences};
 use std::alloc::Global;
 
 /// A value of a cell under the name of the cell.
@@ -46,10 +46,11 @@ pub(crate) fn fixed_names(
     sequences: &Sequences,
     front: &[u8],
 ) -> Result<Vec<(Name, u64)>, NoMemory>
-    requires cells { NamesCellsBelow (length cells.now) sequences.now }
+    requires cells { NamesCellsBelow (length (initials_of cells.now)) sequences.now }
     requires legal { IsLegal (trace_of (initials_of cells.now) sequences.now) (reverse front.now) }
     ensures { IfOk result (λ fixed. fixed.items ≡ named_values cells.now (fixed_values (trace_of (initials_of cells.now) sequences.now) (reverse front.now))) }
 {
+    prove!(cells.len() <= MOST_CELLS);
     let initials = cells.initials()?;
     let values = fixed(alloc, &initials, sequences, front)?;
     with_names(alloc, cells, &values)
