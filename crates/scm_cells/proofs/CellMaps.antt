@@ -11,11 +11,11 @@ use Rattle.scm_sequences.specs.declared.refusal.Refusal.{Refusal}
 use Rattle.scm_sequences.specs.declared.refusal.Refusal.TheVariants.{BadDeclaration}
 use Rattle.scm_sequences.specs.declared.limits.TheConstants.{MOST_CELLS}
 use Rattle.scm_cells.specs.declared.cells.Cell.{Cell}
-use Rattle.scm_cells.specs.declared.number.Num.{Num}
+use Rattle.scm_cells.specs.declared.initial.Initial.{Initial}
 use Rattle.scm_cells.specs.declared.width.Width.{Width}
 use Rattle.scm_cells.specs.Names.{name_eq}
 use Rattle.scm_cells.specs.NameLaws.{position-named, list_any-named}
-use Rattle.scm_cells.specs.Numbers.{value_of_number}
+use Rattle.scm_cells.specs.Initials.{first_contents}
 use Rattle.scm_cells.specs.CellLists.{Declared, add_refusal, cell_named, declared_cell, initials_of}
 use Rattle.scm_cells.specs.CellEntries.{cells_in}
 
@@ -50,9 +50,9 @@ some_from (Some y) e x is = cc
 
 -- what 'Cells::add' finds of its map m, whose cells are these
 module _ {S : Type 0} (m : IndexMap (List ℕ) Cell S) (cells : List Declared) (view_is : cells_in m.entries ≡ cells)
-    (name : List ℕ) (width : Width) (number : Num) where
+    (name : List ℕ) (width : Width) (initial : Initial) where
   pub add_refusal-full : MOST_CELLS ≤ length m.entries
-      → add_refusal cells name width number ≡ Some BadDeclaration
+      → add_refusal cells name width initial ≡ Some BadDeclaration
   add_refusal-full full = by (list_any (λ cell. name_eq cell.name name) cells)
     where
       is_full : nat_le MOST_CELLS (length cells) ≡ true
@@ -60,33 +60,33 @@ module _ {S : Type 0} (m : IndexMap (List ℕ) Cell S) (cells : List Declared) (
 
       by : (has_name : Bool)
           → (if has_name || nat_le MOST_CELLS (length cells) then Some BadDeclaration
-          else option_map_or (λ _. None) (value_of_number width number) (Some BadDeclaration)) ≡ Some BadDeclaration
+          else option_map_or (λ _. None) (first_contents width initial) (Some BadDeclaration)) ≡ Some BadDeclaration
       by true = refl
       by false = rw is_full refl
 
   pub add_refusal-taken : is_some (get_by (name_eq name) m) ≡ true
-      → add_refusal cells name width number ≡ Some BadDeclaration
+      → add_refusal cells name width initial ≡ Some BadDeclaration
   add_refusal-taken taken =
       let has_name : list_any (λ cell. name_eq cell.name name) cells ≡ true =
       rw (← view_is, has_name-cells_in m.entries name) taken in
       rw has_name refl
 
-  -- where it adds a cell of this value
+  -- where it adds a cell of these contents
   module _ (room : length m.entries < MOST_CELLS) (absent : is_some (get_by (name_eq name) m) ≡ false)
-      (e : Refusal) (value : ℕ) (narrowed : ok_or (value_of_number width number) e ≡ Ok value) where
-    pub add_refusal-None : add_refusal cells name width number ≡ None
+      (e : Refusal) (contents : Option ℕ) (fitted : ok_or (first_contents width initial) e ≡ Ok contents) where
+    pub add_refusal-None : add_refusal cells name width initial ≡ None
     add_refusal-None =
         let new : list_any (λ cell. name_eq cell.name name) cells ≡ false =
         rw (← view_is, has_name-cells_in m.entries name) absent in
         let is_full : nat_le MOST_CELLS (length cells) ≡ false =
         rw (← view_is, length-cells_in m.entries) (grind (arith, nat_tests)) in
-        rw (new, is_full, some_from (value_of_number width number) e value narrowed) refl
+        rw (new, is_full, some_from (first_contents width initial) e contents fitted) refl
 
     pub cells_in-insert : (entries : List (List ℕ × Cell))
-        → entries ≡ insert_entry name_eq m.entries name record { width = width; initial = Some value }
-        → IsSomeAnd (declared_cell name width number) (λ cell. cells_in entries ≡ cells ++ cell ∷ [])
+        → entries ≡ insert_entry name_eq m.entries name record { width = width; initial = contents }
+        → IsSomeAnd (declared_cell name width initial) (λ cell. cells_in entries ≡ cells ++ cell ∷ [])
     cells_in-insert entries inserted =
-        let cell : Cell = record { width = width; initial = Some value } in
-        let fits = some_from (value_of_number width number) e value narrowed in
+        let cell : Cell = record { width = width; initial = contents } in
+        let fits = some_from (first_contents width initial) e contents fitted in
         let last = insert_entry-new name_eq m name cell (none_from _ absent) in
         rw (fits, inserted, last, ← view_is) (map-append _ m.entries _)

@@ -1,5 +1,5 @@
 -- The laws of lists of cells.
-use Rattle.std.specs.Prelude.{ℕ, ◌≡◌, ◌^◌, ◌<◌, ◌≤◌, ◌≢◌, List, [], ◌∷◌, ◌++◌, length, All, Bool, true, false, ◌||◌, nat_le, if◌then◌else◌, Option, None, Some, IfSome, IsSomeAnd, slice_index_or}
+use Rattle.std.specs.Prelude.{ℕ, ◌≡◌, ◌^◌, ◌<◌, ◌≤◌, ◌≢◌, List, [], ◌∷◌, ◌++◌, length, All, Bool, true, false, ◌||◌, nat_le, if◌then◌else◌, Option, None, Some, option_map, IfSome, IsSomeAnd, slice_index_or}
 use Rattle.std.specs.List.{list_any}
 use Rattle.std.specs.Option.{option_map_or}
 use Rattle.std.proofs.Common.{◌∙◌, refl, sym, subst, arith, true≢false}
@@ -16,6 +16,9 @@ use Rattle.scm_cells.specs.declared.number.Num.{Num}
 use Rattle.scm_cells.specs.declared.number.Num.TheVariants.{Plain, Negative, Beyond}
 use Rattle.scm_cells.specs.Names.{name_eq}
 use Rattle.scm_cells.specs.NameLaws.{name_eq-Decides}
+use Rattle.scm_cells.specs.declared.initial.Initial.{Initial}
+use Rattle.scm_cells.specs.declared.initial.Initial.TheVariants.{Given, Unset}
+use Rattle.scm_cells.specs.Initials.{first_contents}
 use Rattle.scm_cells.specs.Widths.{values_of}
 use Rattle.scm_cells.specs.Numbers.{value_of_number}
 use Rattle.scm_cells.specs.CellLists.{Declared, AreCells, HasValueInWidth, add_refusal, cell_named, declared_cell, initials_of}
@@ -76,29 +79,42 @@ AreCells-nil = record {
 }
 
 -- what holds where a cell can be added
-pub record IsAddable (cells : List Declared) (name : List ℕ) (width : Width) (number : Num) : Type 0 where
+pub record IsAddable (cells : List Declared) (name : List ℕ) (width : Width) (initial : Initial) : Type 0 where
   pub new : list_any (λ cell. name_eq cell.name name) cells ≡ false
   pub room : length cells < MOST_CELLS
-  pub value : ℕ
-  pub is_value : value_of_number width number ≡ Some value
+  pub contents : Option ℕ
+  pub are_contents : first_contents width initial ≡ Some contents
 
-pub IsAddable-from_add_refusal : (cells : List Declared) (name : List ℕ) (width : Width) (number : Num)
-    → add_refusal cells name width number ≡ None → IsAddable cells name width number
-IsAddable-from_add_refusal cells name width number none =
-    by (list_any (λ cell. name_eq cell.name name) cells) (nat_le MOST_CELLS (length cells)) (value_of_number width number) refl refl refl none
+pub IsAddable-from_add_refusal : (cells : List Declared) (name : List ℕ) (width : Width) (initial : Initial)
+    → add_refusal cells name width initial ≡ None → IsAddable cells name width initial
+IsAddable-from_add_refusal cells name width initial none =
+    by (list_any (λ cell. name_eq cell.name name) cells) (nat_le MOST_CELLS (length cells)) (first_contents width initial) refl refl refl none
   where
-    by : (has_name is_full : Bool) (value : Option ℕ)
+    by : (has_name is_full : Bool) (contents : Option (Option ℕ))
         → list_any (λ cell. name_eq cell.name name) cells ≡ has_name
         → nat_le MOST_CELLS (length cells) ≡ is_full
-        → value_of_number width number ≡ value
+        → first_contents width initial ≡ contents
         → (if has_name || is_full then Some BadDeclaration
-        else option_map_or (λ _. None) value (Some BadDeclaration)) ≡ None
-        → IsAddable cells name width number
-    by true is_full value new room is_value none = cc
-    by false true value new room is_value none = cc
-    by false false None new room is_value none = cc
-    by false false (Some value) new room is_value none =
-        record { new = new; room = grind (arith, nat_tests); value = value; is_value = is_value }
+        else option_map_or (λ _. None) contents (Some BadDeclaration)) ≡ None
+        → IsAddable cells name width initial
+    by true is_full contents new room are_contents none = cc
+    by false true contents new room are_contents none = cc
+    by false false None new room are_contents none = cc
+    by false false (Some contents) new room are_contents none =
+        record { new = new; room = grind (arith, nat_tests); contents = contents; are_contents = are_contents }
+
+-- what a cell holds at first has its width
+HasValueInWidth-declared : (name : List ℕ) (width : Width) (initial : Initial) (contents : Option ℕ)
+    → first_contents width initial ≡ Some contents
+    → HasValueInWidth (record { name = name; width = width; initial = contents })
+HasValueInWidth-declared name width initial None are = tt
+HasValueInWidth-declared name width Unset (Some value) are = cc
+HasValueInWidth-declared name width (Given number) (Some value) are = by (value_of_number width number) refl are
+  where
+    by : (held : Option ℕ) → value_of_number width number ≡ held → option_map Some held ≡ Some (Some value)
+        → value < values_of width
+    by None is are = cc
+    by (Some v) is are = value_of_number-lt width number value (cc)
 
 -- a name that is nowhere among these cells differs from each of theirs
 different_from : (cells : List Declared) (name : List ℕ)
@@ -109,17 +125,17 @@ different_from cells name new k d below same =
     true≢false (sym has_name ∙ new)
 
 -- the cells after one more was declared, as 'Cells::add' leaves them
-pub AreCells-add : (cells new : List Declared) (name : List ℕ) (width : Width) (number : Num)
+pub AreCells-add : (cells new : List Declared) (name : List ℕ) (width : Width) (initial : Initial)
     → AreCells cells
-    → add_refusal cells name width number ≡ None
-    → IsSomeAnd (declared_cell name width number) (λ cell. new ≡ cells ++ cell ∷ [])
+    → add_refusal cells name width initial ≡ None
+    → IsSomeAnd (declared_cell name width initial) (λ cell. new ≡ cells ++ cell ∷ [])
     → AreCells new
-AreCells-add cells new name width number are none added =
-    let addable = IsAddable-from_add_refusal cells name width number none in
-    let cell : Declared = record { name = name; width = width; initial = Some addable.value } in
-    let is : new ≡ cells ++ cell ∷ [] = rw addable.is_value at added in
+AreCells-add cells new name width initial are none added =
+    let addable = IsAddable-from_add_refusal cells name width initial none in
+    let cell : Declared = record { name = name; width = width; initial = addable.contents } in
+    let is : new ≡ cells ++ cell ∷ [] = rw addable.are_contents at added in
     subst AreCells (sym is) record {
       most = simp length-append (omega (arith, addable.room));
       different = all_pairs_push (λ a b. a.name ≢ b.name) cells cell are.different (different_from cells name addable.new);
-      values = All-push HasValueInWidth cells cell are.values (value_of_number-lt width number addable.value addable.is_value);
+      values = All-push HasValueInWidth cells cell are.values (HasValueInWidth-declared name width initial addable.contents addable.are_contents);
     }

@@ -2,6 +2,7 @@ pub mod Names
 pub mod NameLaws
 pub mod Widths
 pub mod Numbers
+pub mod Initials
 pub mod Digits
 pub mod CellLists
 pub mod CellLaws

@@ -4,7 +4,7 @@ ghost use Rattle.indexmap.specs.IndexMap.{values};
 ghost use Rattle.scm_sequences.specs.Refusals.{Refuses};
 ghost use Rattle.scm_cells.specs.CellLists.{add_refusal, cell_named, declared_cell, initials_of, AreCells};
 
-use crate::{Name, Num, Width, narrow};
+use crate::{Initial, Name, Width};
 use indexmap::IndexMap;
 use scm_sequences::{MOST_CELLS, NoMemory, Refusal};
 use std::alloc::{AllocError, Global};
@@ -47,15 +47,15 @@ impl Cells {
         }
     }
 
-    /// Adds a cell of a new name, which holds the value of a number at first, and gives its place.
+    /// Adds a cell of a new name, which holds at first what it is declared to, and gives its place.
     ///
-    /// Refused `BadDeclaration` where the name is there, `MOST_CELLS` cells are there or the number doesn't fit
+    /// Refused `BadDeclaration` where the name is there, `MOST_CELLS` cells are there or a given number doesn't fit
     /// the width; or `NoMemory`. Unchanged after a refusal.
-    pub fn add(&mut self, name: Name, width: Width, number: Num) -> Result<u8, Refusal>
+    pub fn add(&mut self, name: Name, width: Width, initial: Initial) -> Result<u8, Refusal>
         ensures place { IfOk result (λ c. c ≡ length self.old) }
-        ensures added { OnOk result ((add_refusal self.old name width number ≡ None)
-            × IsSomeAnd (declared_cell name width number) (λ cell. self.new ≡ self.old ++ cell ∷ [])) }
-        ensures refused { IfErr result (Refuses (add_refusal self.old name width number)) }
+        ensures added { OnOk result ((add_refusal self.old name width initial ≡ None)
+            × IsSomeAnd (declared_cell name width initial) (λ cell. self.new ≡ self.old ++ cell ∷ [])) }
+        ensures refused { IfErr result (Refuses (add_refusal self.old name width initial)) }
         ensures unchanged { OnErr result (self.new ≡ self.old) }
     {
         let place = self.cells.len();
@@ -63,15 +63,11 @@ impl Cells {
         if is_taken || place >= MOST_CELLS {
             return Err(Refusal::BadDeclaration);
         }
-        let Ok(value) = narrow(width, number) else {
+        let Ok(initial) = initial.first_contents(width) else {
             return Err(Refusal::BadDeclaration);
         };
-        let cell = Cell {
-            width,
-            initial: Some(value),
-        };
         self.cells
-            .insert(name, cell)
+            .insert(name, Cell { width, initial })
             .map_err(|_| Refusal::NoMemory)?;
         Ok(place as u8)
     }
@@ -147,7 +143,7 @@ fn collect_initials(cells: &IndexMap<Name, Cell>) -> Result<Vec<Option<u64>>, Al
 #[cfg(test)]
 mod tests {
     use super::*;
-    use crate::read_num;
+    use crate::{Num, read_initial};
     use std::process::Abort;
     use std::test::Fail;
 
@@ -155,17 +151,22 @@ mod tests {
         Name::read(word.as_bytes()).expect(rt, "a name")
     }
 
-    fn number(rt: &impl Abort, word: &str) -> Num {
-        read_num(word.as_bytes()).expect(rt, "a number")
+    fn initial(rt: &impl Abort, word: &str) -> Initial {
+        read_initial(word.as_bytes()).expect(rt, "a number or ?")
+    }
+
+    fn given(number: u64) -> Initial {
+        Initial::Given(Num::Plain(number))
     }
 
     #[test]
     fn adds_and_finds_cells(rt: HostRuntime) -> Result<(), Fail> {
         let mut cells = Cells::new(rt.alloc());
         assert!(rt; cells.is_empty());
-        assert_eq!(rt; cells.add(name(&rt, "x"), Width::W, number(&rt, "-1"))?, 0);
-        assert_eq!(rt; cells.add(name(&rt, "y"), Width::D, number(&rt, "7"))?, 1);
-        assert_eq!(rt; cells.len(), 2);
+        assert_eq!(rt; cells.add(name(&rt, "x"), Width::W, initial(&rt, "-1"))?, 0);
+        assert_eq!(rt; cells.add(name(&rt, "y"), Width::D, initial(&rt, "7"))?, 1);
+        assert_eq!(rt; cells.add(name(&rt, "later"), Width::W, Initial::Unset)?, 2);
+        assert_eq!(rt; cells.len(), 3);
         assert_eq!(rt; cells.find(&name(&rt, "x")), Some(0));
         assert_eq!(rt; cells.find(&name(&rt, "y")), Some(1));
         assert_eq!(rt; cells.find(&name(&rt, "z")), None);
@@ -173,15 +174,18 @@ mod tests {
         assert_eq!(rt; cells.width(0), Width::W);
         assert_eq!(rt; cells.initial(0), Some(4294967295));
         let initials = cells.initials()?;
-        assert_eq!(rt; initials.as_slice(), [Some(4294967295), Some(7)].as_slice());
+        assert_eq!(rt;
+            initials.as_slice(),
+            [Some(4294967295), Some(7), None].as_slice()
+        );
         Ok(())
     }
 
     #[test]
     fn refuses_a_name_twice(rt: HostRuntime) -> Result<(), Fail> {
         let mut cells = Cells::new(rt.alloc());
-        cells.add(name(&rt, "x"), Width::W, Num::Plain(1))?;
-        let again = cells.add(name(&rt, "x"), Width::D, Num::Plain(2));
+        cells.add(name(&rt, "x"), Width::W, given(1))?;
+        let again = cells.add(name(&rt, "x"), Width::D, given(2));
         assert_eq!(rt; again, Err(Refusal::BadDeclaration));
         assert_eq!(rt; cells.len(), 1);
         Ok(())
@@ -190,22 +194,24 @@ mod tests {
     #[test]
     fn refuses_a_value_that_does_not_fit(rt: HostRuntime) {
         let mut cells = Cells::new(rt.alloc());
-        let added = cells.add(name(&rt, "x"), Width::W, number(&rt, "4294967296"));
+        let added = cells.add(name(&rt, "x"), Width::W, initial(&rt, "4294967296"));
         assert_eq!(rt; added, Err(Refusal::BadDeclaration));
         assert!(rt; cells.is_empty());
     }
 
     #[test]
-    fn refuses_a_seventeenth_cell(rt: HostRuntime) -> Result<(), Fail> {
+    fn refuses_a_cell_past_the_limit(rt: HostRuntime) -> Result<(), Fail> {
         let mut cells = Cells::new(rt.alloc());
-        for letter in "abcdefghijklmnop".bytes() {
-            let name = Name::read(&[letter]).expect(&rt, "a name");
-            cells.add(name, Width::D, Num::Plain(0))?;
+        for i in 0..MOST_CELLS {
+            let name = Name::read(&[b'a' + (i / 10) as u8, b'0' + (i % 10) as u8]).expect(
+                &rt, "a name",
+            );
+            cells.add(name, Width::D, given(0))?;
         }
-        assert_eq!(rt; cells.len(), MOST_CELLS);
-        let added = cells.add(name(&rt, "q"), Width::D, Num::Plain(0));
+        assert_eq!(rt; cells.len(), 64);
+        let added = cells.add(name(&rt, "q"), Width::D, given(0));
         assert_eq!(rt; added, Err(Refusal::BadDeclaration));
-        assert_eq!(rt; cells.find(&name(&rt, "p")), Some(15));
+        assert_eq!(rt; cells.find(&name(&rt, "g3")), Some(63));
         Ok(())
     }
 }

@@ -1,5 +1,5 @@
 use crate::{lower, read_access};
-use scm_cells::{Cells, Name, Num, Width};
+use scm_cells::{Cells, Initial, Name, Num, Width};
 use scm_sequences::{Op, Refusal};
 use std::alloc::Global;
 use std::test::Fail;
@@ -9,7 +9,7 @@ fn declared(alloc: Global) -> Result<Cells, Refusal> {
     let mut cells = Cells::new(alloc);
     for (name, width) in [("x", Width::W), ("y", Width::D)] {
         let name = Name::read(name.as_bytes()).ok_or(Refusal::BadDeclaration)?;
-        cells.add(name, width, Num::Plain(0))?;
+        cells.add(name, width, Initial::Given(Num::Plain(0)))?;
     }
     Ok(cells)
 }

@@ -1,10 +1,10 @@
 //! A walk along a list of process numbers.
-ghost use Rattle.std.specs.Prelude.{ℕ, ◌≡◌, ◌-◌, ◌<◌, ◌≤◌, ◌^◌, ◌↔◌, length, IsTrue, MatchBool, None, Some, OnSome, slice_index};
+ghost use Rattle.std.specs.Prelude.{ℕ, ◌≡◌, ◌-◌, ◌<◌, ◌≤◌, ◌^◌, ◌↔◌, length, IsTrue, MatchBool, None, Some, OnSome, option_and_then, slice_index};
 ghost use Rattle.scm_sequences.specs.declared.limits.TheConstants.{MOST_CELLS, MOST_PROCESSES};
 ghost use Rattle.scm_sequences.specs.Ops.{cell_of, NamesCellsBelow};
 ghost use Rattle.scm_sequences.specs.Sequences.{operation, cut_lists};
 ghost use Rattle.scm_frontier.specs.Steps.{start_of, step_of};
-ghost use Rattle.scm_schedules.specs.Walks.{step_by};
+ghost use Rattle.scm_schedules.specs.Walks.{step_by, open_read_of};
 
 use arrayvec::ArrayVec;
 use scm_sequences::{Lengths, MOST_CELLS, MOST_PROCESSES, Op, Sequences};
@@ -51,6 +51,26 @@ impl Walk {
         match self.next(p, sequences, lengths) {
             Some(op) => self.pass(p, op),
             None => false,
+        }
+    }
+
+    /// What the next operation of process `p` within these lengths reads of a cell that is open here, and the number of
+    /// that cell.
+    pub(crate) fn open_read(
+        &self,
+        p: usize,
+        sequences: &Sequences,
+        lengths: &Lengths,
+    ) -> Option<(usize, u64)>
+        requires procs { length self.now.counts ≡ length lengths.now }
+        requires cells { NamesCellsBelow (length self.now.contents) sequences.now }
+        ensures { result ≡ option_and_then (open_read_of self.now) (operation (cut_lists sequences.now lengths.now) p (slice_index self.now.counts p)) }
+    {
+        let op = self.next(p, sequences, lengths)?;
+        let cell = op.cell();
+        match (op, self.contents[cell]) {
+            (Op::R { value, .. } | Op::Rw { old: value, .. }, None) => Some((cell, value)),
+            _ => None,
         }
     }
 

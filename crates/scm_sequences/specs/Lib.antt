@@ -6,5 +6,7 @@ pub mod SequenceLaws
 pub mod LengthLaws
 pub mod Traces
 pub mod Fronts
+pub mod FixedValues
+pub mod FixedLaws
 pub mod FrontLaws
 pub mod CutLaws

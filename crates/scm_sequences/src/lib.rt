@@ -13,7 +13,7 @@ mod sequences;
 #[cfg(test)]
 mod tests;
 
-pub use laws::restriction;
+pub use laws::{restriction, unset_cells};
 pub use lengths::Lengths;
 pub use limits::{
     LONGEST_LINE, LONGEST_NAME, MOST_CELLS, MOST_ENTRIES, MOST_MARKS, MOST_OPERATIONS,

@@ -34,7 +34,7 @@ fn a_sequence_is_full_at_the_limit(rt: HostRuntime) -> Result<(), Fail> {
         sequences.push(0, swap)?;
     }
     assert_eq!(rt; sequences.push(0, swap), Err(Refusal::SequenceFull));
-    assert_eq!(rt; sequences.count(0), 65_535);
+    assert_eq!(rt; sequences.count(0), 1_000_000);
     Ok(())
 }
 
