@@ -67,8 +67,8 @@ makes_entry reply = true
 -- a call and a reply that are equal to those of an entry that was made
 pub record AreOfEntry (call : CallData) (reply : ReplyData) (kept_call : CallData) (kept_reply : ReplyData) : Type 0 where
   pub makes : makes_entry reply ≡ true
-  pub call : kept_call ≡ call
-  pub reply : kept_reply ≡ reply
+  pub same_call : kept_call ≡ call
+  pub same_reply : kept_reply ≡ reply
 
 -- a session's call with this reply leads from old to new. It is refused for a full journal exactly where the journal is
 -- full. A reply that makes an entry is that of the machine, and this call with its reply stands last in the journal; with

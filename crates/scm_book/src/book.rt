@@ -1,5 +1,5 @@
 //! The book of open traces.
-ghost use Rattle.std.specs.Prelude.{◌≡◌, ◌↔◌, [], false, map, None, Some, IsTrue, IfSome, MatchOption, MatchResult};
+ghost use Rattle.std.specs.Prelude.{◌≡◌, ◌↔◌, [], false, map, None, Some, true, is_ok, IsTrue, IfOk, IfSome, IsSomeAnd, MatchOption, MatchResult};
 ghost use Rattle.scm_book.specs.Calls.{call_data, reply_data, entry_data, opens, claims, releases, reports, sets_mark, goes_back, raises, asks, asks_why, shows, lists, closes};
 ghost use Rattle.scm_book.specs.Machine.{empty_machine};
 ghost use Rattle.scm_book.specs.Sets.{HasRoom, HasRoomFor, HoldsFor, LeavesSets, SearchesSet};
@@ -167,7 +167,7 @@ impl Book {
     ) -> (Reply, Option<(Call, Reply)>)
         requires room { HasRoom self.old.machine (call_data call) steps.old }
         ensures called { IsCall self.old session (call_data call) (reply_data result.0) self.new }
-        ensures kept { IfSome copy (λ copied. KeepsCopies copied (reply_data result.0) result.1) }
+        ensures kept { IfSome copy (λ copied. MatchOption result.1 (makes_entry (reply_data result.0) ≡ false) (λ k. AreOfEntry (call_data copied) (reply_data result.0) (call_data k.0) (reply_data k.1))) }
         ensures machine { tells_of_change (reply_data result.0) ≡ false → self.new.machine ≡ self.old.machine }
         ensures sets { LeavesSets self.old.machine self.old.sets (call_data call) (reply_data result.0) steps.old steps.new self.new.sets }
         ensures legal { IsLegalBook self.new }
@@ -289,7 +289,8 @@ impl Book {
         ensures work { SearchesSet self.old.machine self.old.sets name mark (reply_data result) steps.old steps.new self.new.sets }
         ensures legal { IsLegalBook self.new }
     {
-        self.make(session, Call::Ask { name, mark }, steps)
+        let (reply, _) = self.make(session, Call::Ask { name, mark }, None, steps);
+        reply
     }
 
     /// The same, with a refutation in place of `Inconsistent`. Refused `NoSuchTrace`, `NoSuchMark`.
@@ -299,7 +300,8 @@ impl Book {
         ensures work { SearchesSet self.old.machine self.old.sets name mark (reply_data result) steps.old steps.new self.new.sets }
         ensures legal { IsLegalBook self.new }
     {
-        self.make(session, Call::Why { name, mark }, steps)
+        let (reply, _) = self.make(session, Call::Why { name, mark }, None, steps);
+        reply
     }
 
     /// The operations of a process, as they are stored. Refused `NoSuchTrace`, `NoSuchProcess`.
@@ -325,4 +327,17 @@ impl Book {
     {
         self.call(session, Call::CloseTrace { name })
     }
+}
+
+/// A copy of the reply for the journal, and another one beside the copy of the call where one is given.
+fn copies(reply: &Reply, call: Option<Call>) -> Result<(Reply, Option<(Call, Reply)>), NoMemory>
+    ensures entered { IfOk result (λ made. reply_data made.0 ≡ reply_data reply.now) }
+    ensures kept { IfOk result (λ made. IfSome call (λ copied. IsSomeAnd made.1 (λ k. (call_data k.0 ≡ call_data copied) × (reply_data k.1 ≡ reply_data reply.now)))) }
+    ensures light { tells_of_change (reply_data reply.now) ≡ true → is_ok result ≡ true }
+{
+    let entered = reply.copy()?;
+    let Some(call) = call else {
+        return Ok((entered, None));
+    };
+    Ok((entered, Some((call, reply.copy()?))))
 }

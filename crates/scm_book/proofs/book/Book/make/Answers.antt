@@ -43,7 +43,7 @@ returns-then-not-makes_entry-clause-called c =
     (sym c.if-is_full.ensures) c.call-reply.ensures.step (sym c.if-not-makes_entry.ensures) c.make_room.ensures.entries refl c.call-reply.ensures.sets)
 
 still : (c : goal.Joined-call-4) → tells_of_change (reply_data c.call-reply.result) ≡ false
-still c = untold (reply_data c.call-reply.result) (is_ok c.copy.result) c.copy.ensures.light (ap is_ok c.in_default.is)
+still c = untold (reply_data c.call-reply.result) (is_ok c.copies.result) c.copies.ensures.light (ap is_ok c.in_default.is)
 
 kept : (c : goal.Joined-call-4) → machine_in c.call-reply.new.self ≡ machine_in c.self.inside.traces
 kept c = machine-kept _ _ c.args.session (call_data c.args.call) (reply_data c.call-reply.result) c.call-reply.ensures.step (still c)
@@ -67,13 +67,13 @@ returns-in_default-clause-called c =
 pub returns-in_default-clause-legal : goal.returns-in_default-clause-legal
 returns-in_default-clause-legal c = IsLegalHistory-same _ _ _ _ c.make_room.ensures.entries (kept c) c.self.invariant
 
-pub returns-in_default-clause-kept : goal.returns-in_default-clause-kept
-returns-in_default-clause-kept c = λ _. kept c ∙ ap (λ (b : BookState). b.machine) c.self.view_is
+pub returns-in_default-clause-machine : goal.returns-in_default-clause-machine
+returns-in_default-clause-machine c = λ _. kept c ∙ ap (λ (b : BookState). b.machine) c.self.view_is
 
 -- ---- entered
 
 entered_as : (c : goal.After-enter) → c.enter.new.self.entries ≡ entered c.self.inside.journal.entries c.args.session (call_data c.args.call) (reply_data c.call-reply.result)
-entered_as c = c.enter.ensures ∙ ap₂ (λ entries r. entered entries c.args.session (call_data c.args.call) r) c.make_room.ensures.entries c.in-Ok.ensures.copy
+entered_as c = c.enter.ensures ∙ ap₂ (λ entries r. entered entries c.args.session (call_data c.args.call) r) c.make_room.ensures.entries c.in-Ok.ensures.entered
 
 step : (c : goal.After-enter) → IsStep (machine_in c.self.inside.traces) c.args.session (call_data c.args.call) (reply_data c.call-reply.result) (machine_in c.call-reply.new.self)
 step c = step-from_entry (machine_in c.self.inside.traces) (machine_in c.call-reply.new.self) c.args.session (call_data c.args.call) (reply_data c.call-reply.result) c.call-reply.ensures.step (sym c.if-not-makes_entry.ensures)
@@ -89,8 +89,8 @@ invariant_of-self-2 c = entered_history c
 pub returns-clause-legal : goal.returns-clause-legal
 returns-clause-legal c = entered_history c
 
-pub returns-clause-kept : goal.returns-clause-kept
-returns-clause-kept c = λ told.
+pub returns-clause-machine : goal.returns-clause-machine
+returns-clause-machine c = λ told.
     machine-kept (machine_in c.self.inside.traces) (machine_in c.call-reply.new.self) c.args.session (call_data c.args.call) (reply_data c.call-reply.result) c.call-reply.ensures.step told
     ∙ ap (λ (b : BookState). b.machine) c.self.view_is
 
