@@ -30,7 +30,8 @@ impl Numbering {
     // Adds a process with so many of these operations.
     fn add(&mut self, ops: &[Op], count: u32) -> Option<()> {
         let owner = self.procs()?;
-        self.firsts.push(self.len()?).ok()?;
+        let first = self.len()?;
+        self.firsts.push(first).ok()?;
         for op in ops.iter().take(count as usize) {
             self.ops.push(*op).ok()?;
             self.owners.push(owner).ok()?;

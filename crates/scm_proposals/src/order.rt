@@ -78,7 +78,7 @@ impl Order {
 
     /// Flags the operation of a process that has just come into the window.
     pub(crate) fn flag_entering(&mut self, process: u32) -> Option<()> {
-        let place = self.counts.get(process)?.saturating_add(self.window - 1);
+        let place = self.counts.get(process)?.saturating_add(self.window.saturating_sub(1));
         if let Some(x) = self.facts.numbering.number(process, place) {
             self.flags.add(x)?;
         }
