@@ -4,4 +4,5 @@ pub mod WalkLaws
 pub mod RisingLaws
 pub mod StayingLaws
 pub mod PickingLaws
+pub mod FixingLaws
 pub mod RefutingTests

@@ -1,5 +1,5 @@
 -- The laws of a walk forward along a list of places, which stands oldest first.
-use Rattle.std.proofs.Common.{ℕ, ◌≡◌, ◌+◌, ◌<◌, ◌≤◌, ◌↔◌, Bool, true, false, List, [], ◌∷◌, length, take, drop, get_or, reverse, None, Some, IsTrue, slice_index, ◌==◌, subst, sym, ap, ◌∙◌, arith}
+use Rattle.std.proofs.Common.{ℕ, ◌≡◌, ◌+◌, ◌<◌, ◌≤◌, ◌↔◌, Bool, true, false, List, [], ◌∷◌, length, take, drop, get_or, reverse, None, Some, IsTrue, MatchBool, slice_index, ◌==◌, subst, sym, ap, ◌∙◌, arith}
 use Rattle.std.specs.List.{range_with_len, list_all}
 use Rattle.std.proofs.lemmas.Bool.{false≢true, eq-eqb, eqb-true}
 use Rattle.std.proofs.lemmas.List.{take-append-drop, take_more, take_all, reverse-append, ext_get_or}
@@ -20,11 +20,11 @@ use Rattle.scm_schedules.proofs.FrontSteps.{EndsIn, step_by-some, step_by-none}
 abbrev pub Walked : Trace → List ℕ → ℕ → Situated → Type 0
 Walked t places n s = EndsIn t (reverse (take n places)) s
 
-reverse-take_more : (places : List ℕ) (n : ℕ) → n < length places → reverse (take (n + 1) places) ≡ get_or places n 0 ∷ reverse (take n places)
+pub reverse-take_more : (places : List ℕ) (n : ℕ) → n < length places → reverse (take (n + 1) places) ≡ get_or places n 0 ∷ reverse (take n places)
 reverse-take_more places n h = ap reverse (take_more places n 0 h) ∙ reverse-append (take n places) (get_or places n 0 ∷ [])
 
 -- the first places of a legal list are legal
-legal_prefix : (t : Trace) (places : List ℕ) (n : ℕ) → IsLegal t (reverse places) → IsLegal t (reverse (take n places))
+pub legal_prefix : (t : Trace) (places : List ℕ) (n : ℕ) → IsLegal t (reverse places) → IsLegal t (reverse (take n places))
 legal_prefix t places n legal =
     IsLegal-suffix t (reverse (drop n places)) (reverse (take n places))
     (subst (IsLegal t) (ap reverse (sym (take-append-drop n places)) ∙ reverse-append (take n places) (drop n places)) legal)
@@ -37,13 +37,22 @@ pub Walked-step : (t : Trace) (places : List ℕ) (n : ℕ) (s after : Situated)
 Walked-step t places n s after names walked h e =
     subst (λ front. EndsIn t front after) (sym (reverse-take_more places n h)) (step_by-some t (reverse (take n places)) (get_or places n 0) s after names walked e)
 
+-- along a legal list the next place is legal too
+pub legal_next : (t : Trace) (places : List ℕ) (n : ℕ) → n < length places → IsLegal t (reverse places) → IsLegal t (get_or places n 0 ∷ reverse (take n places))
+legal_next t places n h legal = subst (IsLegal t) (reverse-take_more places n h) (legal_prefix t places (n + 1) legal)
+
+-- so no step along it fails
+pub Walked-next : (t : Trace) (places : List ℕ) (n : ℕ) (s after : Situated) (result : Bool) → NamesCellsBelow (length t.initials) t.sequences → Walked t places n s → n < length places → IsLegal t (reverse places)
+    → MatchBool result (step_by t.sequences s (get_or places n 0) ≡ Some after) (step_by t.sequences s (get_or places n 0) ≡ None) → Walked t places (n + 1) after
+Walked-next t places n s after true names walked h legal stepped = Walked-step t places n s after names walked h stepped
+Walked-next t places n s after false names walked h legal stepped = absurd (step_by-none t (reverse (take n places)) (get_or places n 0) s names walked stepped (legal_next t places n h legal))
+
 -- where a step is not legal, no longer list is a schedule
 pub Walked-stop : (t : Trace) (places : List ℕ) (n : ℕ) (s : Situated) → NamesCellsBelow (length t.initials) t.sequences → Walked t places n s → n < length places
     → step_by t.sequences s (get_or places n 0) ≡ None → IsTrue false ↔ IsSchedule t (reverse places)
 Walked-stop t places n s names walked h e = (
   λ yes. absurd (false≢true yes),
-  λ schedule. absurd (step_by-none t (reverse (take n places)) (get_or places n 0) s names walked e
-      (subst (IsLegal t) (reverse-take_more places n h) (legal_prefix t places (n + 1) schedule.legal))),
+  λ schedule. absurd (step_by-none t (reverse (take n places)) (get_or places n 0) s names walked e (legal_next t places n h schedule.legal)),
 )
 
 -- at the end the counts decide

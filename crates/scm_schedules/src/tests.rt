@@ -1,4 +1,4 @@
-use crate::is_legal;
+use crate::{fixed, is_legal};
 use scm_sequences::{Lengths, MOST_CELLS, Op, Sequences};
 use std::alloc::Global;
 use std::process::Abort;
@@ -76,4 +76,78 @@ fn the_empty_list_is_the_schedule_of_the_empty_trace(rt: HostRuntime) -> Result<
     assert!(rt; legal(&rt, &[Some(0)], &sequences, &sequences.lengths(), &[]));
     assert!(rt; !legal(&rt, &[Some(0)], &sequences, &sequences.lengths(), &[0]));
     Ok(())
+}
+
+// What a schedule of two processes fixes for cells that hold this at first; `None` where it isn't legal.
+fn fixed_by(
+    rt: &impl Abort,
+    alloc: Global,
+    initials: &[Option<u64>],
+    operations: &[(usize, Op)],
+    schedule: &[u8],
+) -> Result<Option<Vec<(u8, u64)>>, Fail> {
+    let mut sequences = Sequences::new(alloc, 2)?;
+    for (p, op) in operations {
+        sequences.push(*p, *op)?;
+    }
+    let lengths = sequences.lengths();
+    assert!(rt; initials.len() <= MOST_CELLS);
+    let is_within = lengths.within(&sequences.lengths());
+    assert!(rt; is_within);
+    let is_below = sequences.names_cells_below(initials.len());
+    assert!(rt; is_below);
+    if is_legal(initials, &sequences, &lengths, schedule) {
+        Ok(Some(fixed(alloc, initials, &sequences, schedule)?))
+    } else {
+        Ok(None)
+    }
+}
+
+fn check_fixed(
+    rt: &impl Abort,
+    alloc: Global,
+    initials: &[Option<u64>],
+    operations: &[(usize, Op)],
+    schedule: &[u8],
+    values: &[(u8, u64)],
+) -> Result<(), Fail> {
+    let fixed = fixed_by(rt, alloc, initials, operations, schedule)?;
+    let fixed = fixed.expect(rt, "a schedule");
+    assert_eq!(rt; fixed.as_slice(), values);
+    Ok(())
+}
+
+#[test]
+fn what_is_read_first_of_an_unset_cell_is_fixed(rt: HostRuntime) -> Result<(), Fail> {
+    let alloc = rt.alloc();
+    check_fixed(&rt, alloc, &[None], &[], &[], &[])?;
+    check_fixed(&rt, alloc, &[None], &[(0, read(0, 7))], &[0], &[(0, 7)])?;
+    let read_before = [(0, read(0, 3)), (1, write(0, 4))];
+    check_fixed(&rt, alloc, &[None], &read_before, &[0, 1], &[(0, 3)])?;
+    let written_before = [(0, write(0, 4)), (0, read(0, 4))];
+    check_fixed(&rt, alloc, &[None], &written_before, &[0, 0], &[])?;
+    let swapped = Op::Rw {
+        cell: 0,
+        old: u64::MAX,
+        new: 1,
+    };
+    check_fixed(&rt, alloc, &[None], &[(0, swapped)], &[0], &[(0, u64::MAX)])?;
+    let two_values = [(0, read(0, 1)), (1, read(0, 2))];
+    let none = fixed_by(&rt, alloc, &[None], &two_values, &[0, 1])?;
+    assert!(rt; none.is_none());
+    Ok(())
+}
+
+#[test]
+fn fixed_values_stand_in_the_order_of_the_cells(rt: HostRuntime) -> Result<(), Fail> {
+    let operations = [(0, read(2, 5)), (0, read(0, 6)), (0, read(1, 0))];
+    let initials = [None, Some(0), None, None];
+    check_fixed(
+        &rt,
+        rt.alloc(),
+        &initials,
+        &operations,
+        &[0, 0, 0],
+        &[(0, 6), (2, 5)],
+    )
 }

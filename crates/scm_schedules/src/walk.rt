@@ -66,11 +66,24 @@ impl Walk {
         requires cells { NamesCellsBelow (length self.now.contents) sequences.now }
         ensures { result ≡ option_and_then (open_read_of self.now) (operation (cut_lists sequences.now lengths.now) p (slice_index self.now.counts p)) }
     {
-        let op = self.next(p, sequences, lengths)?;
+        match self.next(p, sequences, lengths) {
+            Some(op) => self.open_read_of(op),
+            None => None,
+        }
+    }
+
+    // What this operation reads of its cell, and the number of that, where it is open here.
+    fn open_read_of(&self, op: Op) -> Option<(usize, u64)>
+        requires { cell_of op < length self.now.contents }
+        ensures { result ≡ open_read_of self.now op }
+    {
         let cell = op.cell();
-        match (op, self.contents[cell]) {
-            (Op::R { value, .. } | Op::Rw { old: value, .. }, None) => Some((cell, value)),
-            _ => None,
+        if self.contents[cell].is_some() {
+            return None;
+        }
+        match op {
+            Op::R { value, .. } | Op::Rw { old: value, .. } => Some((cell, value)),
+            Op::W { .. } => None,
         }
     }
 

@@ -66,6 +66,19 @@ fixed_value-step t p earlier c =
       by None None None fixed read same = refl
       by None None (Some f) fixed read same = rw (same refl) refl
 
+-- what an operation adds to that
+pub fixed_value-more : (t : Trace) (p : ℕ) (earlier : List ℕ) (op : Op) (c : ℕ) → following t earlier p ≡ Some op
+    → fixed_value t (p ∷ earlier) c ≡ option_or (fixed_value t earlier c) (if is_none (value_before t earlier c) then read_of op c else None)
+fixed_value-more t p earlier op c e =
+    fixed_value-step t p earlier c
+    ∙ ap (λ o. option_or (fixed_value t earlier c) (if is_none (value_before t earlier c) then option_and_then (λ op. read_of op c) o else None)) e
+
+-- an operation reads its own cell alone
+pub read_of-other : (op : Op) (c : ℕ) → cell_of op ≢ c → read_of op c ≡ None
+read_of-other (W a d) c ne = refl
+read_of-other (R a d) c ne = ap (λ b. if b then Some d else None) (ne_eqb a c ne)
+read_of-other (Rw a d e) c ne = ap (λ b. if b then Some d else None) (ne_eqb a c ne)
+
 -- what is open was not fixed
 pub fixed_value-open : (t : Trace) (front : List ℕ) (c : ℕ) → value_before t front c ≡ None → fixed_value t front c ≡ None
 fixed_value-open t front c is_open =
@@ -137,10 +150,6 @@ module _ (t : Trace) (chosen : ℕ → ℕ) where
         by None more kept = tt
         by (Some v) more kept = kept
 
-  -- what an operation adds to the values that are fixed
-  fixed_more : (p : ℕ) (earlier : List ℕ) (op : Op) (c : ℕ) → following t earlier p ≡ Some op → fixed_value t (p ∷ earlier) c ≡ option_or (fixed_value t earlier c) (if is_none (value_before t earlier c) then read_of op c else None)
-  fixed_more p earlier op c e = fixed_value-step t p earlier c ∙ ap (λ o. option_or (fixed_value t earlier c) (if is_none (value_before t earlier c) then option_and_then (λ op. read_of op c) o else None)) e
-
   -- an operation that finds what it reads where the values are given finds it where the cell is open, and reads the chosen one there
   finds_given : (op : Op) (value : Option ℕ) → IsTrue (finds op (λ _. Some (unwrap_or value (chosen (cell_of op))))) → IsTrue (finds op (λ _. value))
   finds_given (W c d) value found = refl
@@ -153,11 +162,6 @@ module _ (t : Trace) (chosen : ℕ → ℕ) where
   read_chosen (W a d) c same found = tt
   read_chosen (R a d) c same found = subst (λ (b : Bool). IfSome (if b then Some d else None) (λ value. chosen c ≡ value)) (sym (eq-eqb a c same)) (eqb-true (chosen c) d found)
   read_chosen (Rw a d e) c same found = subst (λ (b : Bool). IfSome (if b then Some d else None) (λ value. chosen c ≡ value)) (sym (eq-eqb a c same)) (eqb-true (chosen c) d found)
-
-  read_other : (op : Op) (c : ℕ) → cell_of op ≢ c → read_of op c ≡ None
-  read_other (W a d) c ne = refl
-  read_other (R a d) c ne = ap (λ b. if b then Some d else None) (ne_eqb a c ne)
-  read_other (Rw a d e) c ne = ap (λ b. if b then Some d else None) (ne_eqb a c ne)
 
   -- and the other way round
   found_given : (op : Op) (value : Option ℕ) → IsTrue (finds op (λ _. value)) → (value ≡ None → IfSome (read_of op (cell_of op)) (λ read. chosen (cell_of op) ≡ read)) → IsTrue (finds op (λ _. Some (unwrap_or value (chosen (cell_of op)))))
@@ -195,14 +199,14 @@ module _ (t : Trace) (chosen : ℕ → ℕ) where
       past h = sym (finds-same op (value_before (given t chosen) earlier) (value_before t earlier) (value_before-given_past earlier a h)) ∙ found
 
       kept : (c : ℕ) → c < length t.initials → IsKept t chosen (p ∷ earlier) c
-      kept c h = subst (λ o. IfSome o (λ value. chosen c ≡ value)) (sym (fixed_more p earlier op c next.1)) (by (value_before t earlier c) refl (fixed_value t earlier c) (before.1 c h) (fixed_value-open t earlier c)) where
+      kept c h = subst (λ o. IfSome o (λ value. chosen c ≡ value)) (sym (fixed_value-more t p earlier op c next.1)) (by (value_before t earlier c) refl (fixed_value t earlier c) (before.1 c h) (fixed_value-open t earlier c)) where
         reads : value_before t earlier c ≡ None → IfSome (read_of op c) (λ value. chosen c ≡ value)
         reads is_open = ⊎_elim here other (cases_eq a c) where
           here : a ≡ c → IfSome (read_of op c) (λ value. chosen c ≡ value)
           here same = read_chosen op c same (at (Some (chosen c)) (ap (value_before (given t chosen) earlier) same ∙ value_before-given earlier c h (before.1 c h) ∙ ap (λ o. Some (unwrap_or o (chosen c))) is_open))
 
           other : a ≢ c → IfSome (read_of op c) (λ value. chosen c ≡ value)
-          other ne = subst (λ o. IfSome o (λ value. chosen c ≡ value)) (sym (read_other op c ne)) tt
+          other ne = subst (λ o. IfSome o (λ value. chosen c ≡ value)) (sym (read_of-other op c ne)) tt
 
         by : (value : Option ℕ) → value_before t earlier c ≡ value → (fixed : Option ℕ) → IfSome fixed (λ value. chosen c ≡ value) → (value_before t earlier c ≡ None → fixed ≡ None)
             → IfSome (option_or fixed (if is_none value then read_of op c else None)) (λ value. chosen c ≡ value)
@@ -228,7 +232,7 @@ module _ (t : Trace) (chosen : ℕ → ℕ) where
       reads : a < length t.initials → value_before t earlier a ≡ None → IfSome (read_of op a) (λ read. chosen a ≡ read)
       reads h is_open =
           subst (λ o. IfSome o (λ value. chosen a ≡ value))
-          (fixed_more p earlier op a next.1 ∙ ap₂ (λ fixed value. option_or fixed (if is_none value then read_of op a else None)) (fixed_value-open t earlier a is_open) is_open) (kept a h)
+          (fixed_value-more t p earlier op a next.1 ∙ ap₂ (λ fixed value. option_or fixed (if is_none value then read_of op a else None)) (fixed_value-open t earlier a is_open) is_open) (kept a h)
 
       within : a < length t.initials → IsTrue (finds op (value_before (given t chosen) earlier))
       within h =
