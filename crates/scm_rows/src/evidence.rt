@@ -71,7 +71,9 @@ fn check_at(
     }
     let sequences = sequences_of(rt, alloc, &mut book, name, opening.procs);
     let Opening {
-        names, initials, ..
+        names,
+        initials,
+        ..
     } = opening;
     let lengths = sequences.lengths();
     assert!(rt; initials.len() <= MOST_CELLS);
@@ -81,7 +83,8 @@ fn check_at(
         Reply::Consistent { schedule, fixed } => {
             assert!(rt; is_legal(&initials, &sequences, &lengths, schedule));
             let given = initials_given(rt, alloc, &names, &initials, fixed);
-            assert!(rt; given.len() == initials.len());
+            assert!(rt; given.len() <= MOST_CELLS);
+            assert!(rt; sequences.names_cells_below(given.len()));
             assert!(rt; is_legal(&given, &sequences, &lengths, schedule));
         }
         Reply::Because(situations) => {

@@ -14,7 +14,9 @@ fn push_open(script: &mut String, alloc: Global, cells: u8) -> Result<(), AllocE
     script.push_str(" 32 1000000")?;
     for cell in 0..cells {
         let (tens, ones) = (cell / 10, cell % 10);
-        let decl = format!(in alloc; " abcdefghijklmnopqrstuvwxyz-in-{tens}{ones}:d=18446744073709551615")?;
+        let decl = format!(in alloc;
+            " abcdefghijklmnopqrstuvwxyz-in-{tens}{ones}:d=18446744073709551615"
+        )?;
         script.push_str(decl.as_str())?;
     }
     script.push('\n')

@@ -63,10 +63,7 @@ fn a_swap_tells_what_a_cell_held(rt: HostRuntime) {
             ("a open t 1 100 z:d=?", "a ok"),
             ("a claim t 0", "a ok"),
             ("a do t 0 amoswap.d z 1 -1", "a ok"),
-            (
-                "a ask t",
-                "a consistent 1 0 with z=18446744073709551615",
-            ),
+            ("a ask t", "a consistent 1 0 with z=18446744073709551615"),
         ],
     );
 }
