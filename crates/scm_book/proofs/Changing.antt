@@ -8,6 +8,7 @@ use Rattle.scm_book.specs.Verdicts.{Fits}
 use Rattle.scm_book.specs.Steps.{Unless, IsAbout, HasEffect, IsStep, IsStepOrNoMemory}
 use Rattle.scm_book.specs.Journal.{makes_entry}
 use Rattle.scm_marks.specs.MarkLists.{mark_at}
+use Rattle.scm_cells.specs.CellLists.{Declared}
 use Rattle.scm_sequences.specs.Traces.{Trace, cut_to}
 use Rattle.scm_book.proofs.Entering.{refusal_of-makes_entry}
 use Rattle.scm_book.specs.Changes.{tells_of_change}
@@ -65,22 +66,22 @@ in_trace-enters : (o : Option TraceState) (P : TraceState → Type 0) (reply : R
 in_trace-enters None P reply enters effect = absurd effect
 in_trace-enters (Some state) P reply enters effect = enters state effect
 
-fits-enters : (t : Trace) (budget : ℕ) (reply : ReplyData) → Fits t budget reply → makes_entry reply ≡ true
-fits-enters t budget done fits = absurd fits
-fits-enters t budget (marked mark) fits = absurd fits
-fits-enters t budget (consistent schedule) fits = refl
-fits-enters t budget inconsistent fits = refl
-fits-enters t budget undecided fits = refl
-fits-enters t budget (because situations) fits = refl
-fits-enters t budget (ops operations) fits = absurd fits
-fits-enters t budget (listed names) fits = absurd fits
-fits-enters t budget (refused refusal) fits = absurd fits
+fits-enters : (cells : List Declared) (t : Trace) (budget : ℕ) (reply : ReplyData) → Fits cells t budget reply → makes_entry reply ≡ true
+fits-enters cells t budget done fits = absurd fits
+fits-enters cells t budget (marked mark) fits = absurd fits
+fits-enters cells t budget (consistent schedule fixed) fits = refl
+fits-enters cells t budget inconsistent fits = refl
+fits-enters cells t budget undecided fits = refl
+fits-enters cells t budget (because situations) fits = refl
+fits-enters cells t budget (ops operations) fits = absurd fits
+fits-enters cells t budget (listed names) fits = absurd fits
+fits-enters cells t budget (refused refusal) fits = absurd fits
 
-about-enters : (state : TraceState) (mark : Option ℕ) (reply : ReplyData) → IsAbout state mark (λ t. Fits t state.budget reply) → makes_entry reply ≡ true
-about-enters state None reply fits = fits-enters (trace_in state) state.budget reply fits
+about-enters : (state : TraceState) (mark : Option ℕ) (reply : ReplyData) → IsAbout state mark (λ t. Fits state.cells t state.budget reply) → makes_entry reply ≡ true
+about-enters state None reply fits = fits-enters state.cells (trace_in state) state.budget reply fits
 about-enters state (Some m) reply fits = at (mark_at state.marks m) fits where
-  at : (r : Result (List ℕ) Refusal) → IsOkAnd r (λ lengths. Fits (cut_to (trace_in state) lengths) state.budget reply) → makes_entry reply ≡ true
-  at (Ok lengths) fits = fits-enters (cut_to (trace_in state) lengths) state.budget reply fits
+  at : (r : Result (List ℕ) Refusal) → IsOkAnd r (λ lengths. Fits state.cells (cut_to (trace_in state) lengths) state.budget reply) → makes_entry reply ≡ true
+  at (Ok lengths) fits = fits-enters state.cells (cut_to (trace_in state) lengths) state.budget reply fits
   at (Err refusal) fits = absurd fits
 
 effect-enters : (old new : Machine) (session : ℕ) (call : CallData) (reply : ReplyData) → HasEffect old session call reply new → makes_entry reply ≡ true

@@ -13,9 +13,9 @@ use Rattle.scm_sequences.specs.declared.refusal.Refusal.TheVariants.{BadDeclarat
 use Rattle.scm_sequences.specs.declared.limits.TheConstants.{MOST_CELLS}
 use Rattle.scm_sequences.specs.Refusals.{Refuses}
 use Rattle.scm_cells.specs.declared.width.Width.{Width}
-use Rattle.scm_cells.specs.declared.number.Num.{Num}
+use Rattle.scm_cells.specs.declared.initial.Initial.{Initial}
 use Rattle.scm_cells.specs.Names.{name_eq}
-use Rattle.scm_cells.specs.Numbers.{value_of_number}
+use Rattle.scm_cells.specs.Initials.{first_contents}
 use Rattle.scm_cells.specs.CellLists.{Declared, add_refusal, declared_cell}
 use Rattle.scm_book.specs.declared.call.Decl.{Decl}
 use Rattle.scm_book.specs.Refusals.{cause, names_differ, declared_cells, are_bad_cells}
@@ -97,10 +97,10 @@ add_all-is cells [] few = add_all-nil cells ∙ by (nat_lt MOST_CELLS (length ce
     by : (full : Bool) → full ≡ false → Some cells ≡ (if (false || full) || false then None else Some (cells ++ []))
     by true is = cc
     by false is = ap Some (sym (append-nil cells))
-add_all-is cells (d ∷ ds) few = add_all-cons cells d ds ∙ by (list_any (λ cell. name_eq cell.name d.name) cells) (nat_le MOST_CELLS (length cells)) (value_of_number d.width d.initial) (λ more h. add_all-is more ds h) refl
+add_all-is cells (d ∷ ds) few = add_all-cons cells d ds ∙ by (list_any (λ cell. name_eq cell.name d.name) cells) (nat_le MOST_CELLS (length cells)) (first_contents d.width d.initial) (λ more h. add_all-is more ds h) refl
   where
-    cell_of_value : ℕ → Declared
-    cell_of_value value = record { name = d.name; width = d.width; initial = Some value }
+    cell_holding : Option ℕ → Declared
+    cell_holding contents = record { name = d.name; width = d.width; initial = contents }
 
     twin : Bool
     twin = list_any (λ other. name_eq d.name other.name) ds
@@ -111,32 +111,32 @@ add_all-is cells (d ∷ ds) few = add_all-cons cells d ds ∙ by (list_any (λ c
     Rest : Type 0
     Rest = (more : List Declared) → length more ≤ MOST_CELLS → add_all more ds ≡ (if are_refused more ds then None else option_map (λ added. more ++ added) (declared_cells ds))
 
-    added : Rest → (value : ℕ) → nat_le MOST_CELLS (length cells) ≡ false
-        → add_all (cells ++ cell_of_value value ∷ []) ds
-        ≡ (if (clashes cells ds || full) || not (not twin && names_differ ds) then None else option_map (λ more. cells ++ more) (option_map (λ more. cell_of_value value ∷ more) (declared_cells ds)))
-    added rest value room =
-        rest (cells ++ cell_of_value value ∷ []) (grind (arith, nat_tests, length-append cells (cell_of_value value ∷ [])))
-        ∙ ap (λ b. if b then None else option_map (λ more. (cells ++ cell_of_value value ∷ []) ++ more) (declared_cells ds)) (
-        ap (λ b. (b || nat_lt MOST_CELLS (length (cells ++ cell_of_value value ∷ []) + length ds)) || not (names_differ ds)) (clashes-push cells (cell_of_value value) ds)
-        ∙ ap (λ n. ((clashes cells ds || twin) || nat_lt MOST_CELLS n) || not (names_differ ds)) (omega (arith, length-append cells (cell_of_value value ∷ [])))
+    added : Rest → (contents : Option ℕ) → nat_le MOST_CELLS (length cells) ≡ false
+        → add_all (cells ++ cell_holding contents ∷ []) ds
+        ≡ (if (clashes cells ds || full) || not (not twin && names_differ ds) then None else option_map (λ more. cells ++ more) (option_map (λ more. cell_holding contents ∷ more) (declared_cells ds)))
+    added rest contents room =
+        rest (cells ++ cell_holding contents ∷ []) (grind (arith, nat_tests, length-append cells (cell_holding contents ∷ [])))
+        ∙ ap (λ b. if b then None else option_map (λ more. (cells ++ cell_holding contents ∷ []) ++ more) (declared_cells ds)) (
+        ap (λ b. (b || nat_lt MOST_CELLS (length (cells ++ cell_holding contents ∷ []) + length ds)) || not (names_differ ds)) (clashes-push cells (cell_holding contents) ds)
+        ∙ ap (λ n. ((clashes cells ds || twin) || nat_lt MOST_CELLS n) || not (names_differ ds)) (omega (arith, length-append cells (cell_holding contents ∷ [])))
         ∙ gathered (clashes cells ds) twin full (names_differ ds))
-        ∙ ap (λ o. if (clashes cells ds || full) || not (not twin && names_differ ds) then None else o) (one_more cells (cell_of_value value) (declared_cells ds))
+        ∙ ap (λ o. if (clashes cells ds || full) || not (not twin && names_differ ds) then None else o) (one_more cells (cell_holding contents) (declared_cells ds))
 
-    by : (clash at_most : Bool) (value : Option ℕ) → Rest → nat_le MOST_CELLS (length cells) ≡ at_most
-        → option_map_or (λ _. None) (if clash || at_most then Some BadDeclaration else option_map_or (λ _. None) value (Some BadDeclaration)) (option_and_then (λ cell. add_all (cells ++ cell ∷ []) ds) (option_map cell_of_value value))
-        ≡ (if ((clash || clashes cells ds) || full) || not (not twin && names_differ ds) then None else option_map (λ more. cells ++ more) (option_and_then (λ cell. option_map (λ more. cell ∷ more) (declared_cells ds)) (option_map cell_of_value value)))
-    by true at_most value rest is = refl
-    by false true value rest is = full_refused (clashes cells ds) full (not twin && names_differ ds) (option_map (λ more. cells ++ more) (option_and_then (λ cell. option_map (λ more. cell ∷ more) (declared_cells ds)) (option_map cell_of_value value))) (lt-ltb MOST_CELLS (length cells + suc (length ds)) (grind (arith, nat_tests)))
+    by : (clash at_most : Bool) (contents : Option (Option ℕ)) → Rest → nat_le MOST_CELLS (length cells) ≡ at_most
+        → option_map_or (λ _. None) (if clash || at_most then Some BadDeclaration else option_map_or (λ _. None) contents (Some BadDeclaration)) (option_and_then (λ cell. add_all (cells ++ cell ∷ []) ds) (option_map cell_holding contents))
+        ≡ (if ((clash || clashes cells ds) || full) || not (not twin && names_differ ds) then None else option_map (λ more. cells ++ more) (option_and_then (λ cell. option_map (λ more. cell ∷ more) (declared_cells ds)) (option_map cell_holding contents)))
+    by true at_most contents rest is = refl
+    by false true contents rest is = full_refused (clashes cells ds) full (not twin && names_differ ds) (option_map (λ more. cells ++ more) (option_and_then (λ cell. option_map (λ more. cell ∷ more) (declared_cells ds)) (option_map cell_holding contents))) (lt-ltb MOST_CELLS (length cells + suc (length ds)) (grind (arith, nat_tests)))
     by false false None rest is = no_value ((clashes cells ds || full) || not (not twin && names_differ ds))
-    by false false (Some value) rest is = added rest value is
+    by false false (Some contents) rest is = added rest contents is
 
 -- ---- what the loop over the declarations has to show
 
-add_refusal-cases : (cells : List Declared) (name : List ℕ) (width : Width) (number : Num) (refusal : Refusal) → add_refusal cells name width number ≡ Some refusal → refusal ≡ BadDeclaration
-add_refusal-cases cells name width number refusal is = by (list_any (λ cell. name_eq cell.name name) cells || nat_le MOST_CELLS (length cells)) (value_of_number width number) is
+add_refusal-cases : (cells : List Declared) (name : List ℕ) (width : Width) (initial : Initial) (refusal : Refusal) → add_refusal cells name width initial ≡ Some refusal → refusal ≡ BadDeclaration
+add_refusal-cases cells name width initial refusal is = by (list_any (λ cell. name_eq cell.name name) cells || nat_le MOST_CELLS (length cells)) (first_contents width initial) is
   where
-    by : (b : Bool) (value : Option ℕ) → (if b then Some BadDeclaration else option_map_or (λ _. None) value (Some BadDeclaration)) ≡ Some refusal → refusal ≡ BadDeclaration
-    by true value is = cc
+    by : (b : Bool) (contents : Option (Option ℕ)) → (if b then Some BadDeclaration else option_map_or (λ _. None) contents (Some BadDeclaration)) ≡ Some refusal → refusal ≡ BadDeclaration
+    by true contents is = cc
     by false None is = cc
     by false (Some v) is = cc
 

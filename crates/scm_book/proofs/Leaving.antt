@@ -85,7 +85,7 @@ leaves_idle traces (closes name) refusal made = refl
 still_other : (reply : ReplyData) (effect other : Type 0) → tells_of_change reply ≡ false → IfDone reply effect other → other
 still_other done effect other still h = let no : true ≡ false = still in cc
 still_other (marked mark) effect other still h = h
-still_other (consistent schedule) effect other still h = h
+still_other (consistent schedule fixed) effect other still h = h
 still_other inconsistent effect other still h = h
 still_other undecided effect other still h = h
 still_other (because situations) effect other still h = h

@@ -13,3 +13,4 @@ pub mod Keeping
 pub mod Leaving
 mod Delivering
 mod Taking
+mod FixedValues

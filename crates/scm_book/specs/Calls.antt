@@ -41,8 +41,8 @@ pub data ReplyData : Type 0 where
   done : ReplyData
   -- the number of a mark
   marked : ℕ → ReplyData
-  -- the places of a schedule, oldest first
-  consistent : List ℕ → ReplyData
+  -- the places of a schedule, oldest first, and the fixed values of cells, each under the name of its cell
+  consistent : List ℕ → List (List ℕ × ℕ) → ReplyData
   inconsistent : ReplyData
   undecided : ReplyData
   -- the situations of a refutation
@@ -85,7 +85,7 @@ call_data (CloseTrace name) = closes name
 abbrev pub reply_data : Reply → ReplyData
 reply_data Done = done
 reply_data (MarkSet mark) = marked mark
-reply_data (Consistent schedule) = consistent schedule.items
+reply_data (Consistent schedule fixed) = consistent schedule.items fixed.items
 reply_data Inconsistent = inconsistent
 reply_data Undecided = undecided
 reply_data (Because situations) = because situations.items

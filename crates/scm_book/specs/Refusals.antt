@@ -28,7 +28,7 @@ abbrev pub names_differ : List Decl → Bool
 names_differ [] = true
 names_differ (decl ∷ others) = not (list_any (λ other. name_eq decl.name other.name) others) && names_differ others
 
--- the cells that are declared, None where a number doesn't fit its width
+-- the cells that are declared, None where a given number doesn't fit its width
 abbrev pub declared_cells : List Decl → Option (List Declared)
 declared_cells [] = Some []
 declared_cells (decl ∷ others) =

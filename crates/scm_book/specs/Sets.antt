@@ -67,7 +67,7 @@ asked_lengths state (Some m) = mark_at state.marks m
 -- where the reply says that there is a schedule, a situation with every operation is held; where it says that there is
 -- none, all next operations were looked at
 abbrev pub IsKnownBy : ReplyData → List (List Op) → List ℕ → List Member → Type 0
-IsKnownBy (consistent schedule) sequences lengths members = HasWhole lengths members
+IsKnownBy (consistent schedule fixed) sequences lengths members = HasWhole lengths members
 IsKnownBy inconsistent sequences lengths members = IsAllDone sequences lengths members
 IsKnownBy (because situations) sequences lengths members = IsAllDone sequences lengths members
 IsKnownBy reply sequences lengths members = ⊤

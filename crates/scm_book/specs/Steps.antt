@@ -72,11 +72,11 @@ IsAbout state (Some m) P = IsOkAnd (mark_at state.marks m) (λ lengths. P (cut_t
 -- the verdict fits the trace and the trace's present budget; a refutation comes only with `why`
 abbrev pub Asks : TraceState → Option ℕ → ReplyData → Type 0
 Asks state mark reply =
-    IsAbout state mark (λ t. Fits t state.budget reply) × ((situations : List Situated) → reply ≢ because situations)
+    IsAbout state mark (λ t. Fits state.cells t state.budget reply) × ((situations : List Situated) → reply ≢ because situations)
 
 -- the same with the refutation in place of `inconsistent`
 abbrev pub AsksWhy : TraceState → Option ℕ → ReplyData → Type 0
-AsksWhy state mark reply = IsAbout state mark (λ t. Fits t state.budget reply) × (reply ≢ inconsistent)
+AsksWhy state mark reply = IsAbout state mark (λ t. Fits state.cells t state.budget reply) × (reply ≢ inconsistent)
 
 -- what a session's call with this reply makes of the machine where it is not refused
 abbrev pub HasEffect : Machine → ℕ → CallData → ReplyData → Machine → Type 0

@@ -2,16 +2,16 @@
 ghost use Rattle.std.specs.Prelude.{◌≡◌, IfOk};
 ghost use Rattle.scm_book.specs.Calls.{call_data};
 
-use scm_cells::{Name, Num, Width};
+use scm_cells::{Initial, Name, Width};
 use scm_lowering::Access;
 use scm_sequences::NoMemory;
 
-/// A declaration of a cell: its name, its width, and the number that it holds at first.
+/// A declaration of a cell: its name, its width, and what it holds at first, where that is known.
 #[derive(Clone, Copy, Debug, PartialEq, Eq)]
 pub struct Decl {
     pub name: Name,
     pub width: Width,
-    pub initial: Num,
+    pub initial: Initial,
 }
 
 /// What a session asks of the book.

@@ -6,6 +6,7 @@ mod call;
 mod declarations;
 mod entry;
 mod event;
+mod fixing;
 mod journal;
 mod open_trace;
 mod question;

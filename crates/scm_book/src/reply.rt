@@ -22,8 +22,12 @@ pub enum Reply {
     Done,
     /// The number of a mark that was set.
     MarkSet(u64),
-    /// The trace is consistent: the process numbers of a legal schedule, oldest first.
-    Consistent(Vec<u8>),
+    /// The trace is consistent: the process numbers of a legal schedule, oldest first, and what cells must have held at
+    /// first whose first contents were open, in the order of their declaration.
+    Consistent {
+        schedule: Vec<u8>,
+        fixed: Vec<(Name, u64)>,
+    },
     /// No legal schedule exists.
     Inconsistent,
     /// More situations can be reached than the trace's budget.
@@ -57,7 +61,10 @@ impl Reply {
         Ok(match self {
             Reply::Done => Reply::Done,
             Reply::MarkSet(mark) => Reply::MarkSet(*mark),
-            Reply::Consistent(schedule) => Reply::Consistent(schedule.clone()?),
+            Reply::Consistent { schedule, fixed } => Reply::Consistent {
+                schedule: schedule.clone()?,
+                fixed: fixed.clone()?,
+            },
             Reply::Inconsistent => Reply::Inconsistent,
             Reply::Undecided => Reply::Undecided,
             Reply::Because(situations) => {

@@ -1,7 +1,7 @@
 //! The words of the tests: sessions, names, cells and accesses.
 
 use crate::{Decl, Reply};
-use scm_cells::{Name, Num, Width};
+use scm_cells::{Initial, Name, Num, Width};
 use scm_lowering::Access;
 use std::process::Abort;
 
@@ -19,7 +19,7 @@ pub(crate) fn cell(rt: &impl Abort, word: &[u8]) -> Decl {
     Decl {
         name: name(rt, word),
         width: Width::W,
-        initial: Num::Plain(0),
+        initial: Initial::Given(Num::Plain(0)),
     }
 }
 

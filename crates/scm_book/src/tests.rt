@@ -19,10 +19,11 @@ fn why(book: &mut Book, session: u16, name: Name, mark: Option<u64>) -> Reply {
 
 // A trace with no operations has just the empty schedule.
 fn assert_empty_schedule(rt: &impl Abort, reply: Reply) {
-    let Reply::Consistent(schedule) = reply else {
+    let Reply::Consistent { schedule, fixed } = reply else {
         panic!(rt; "not consistent");
     };
     assert!(rt; schedule.is_empty());
+    assert!(rt; fixed.is_empty());
 }
 
 fn assert_refused(rt: &impl Abort, reply: Reply, refusal: Refusal) {
@@ -74,7 +75,7 @@ fn message_passing_is_consistent(rt: HostRuntime) -> Result<(), Fail> {
     let mut book = Book::new(rt.alloc());
     open_two(&rt, &mut book, 100);
     pass_message(&rt, &mut book, 1);
-    let Reply::Consistent(schedule) = ask(&mut book, BERT, name(&rt, b"t"), None) else {
+    let Reply::Consistent { schedule, .. } = ask(&mut book, BERT, name(&rt, b"t"), None) else {
         return Err("not consistent".into());
     };
     assert_eq!(rt; schedule.as_slice(), [0, 0, 1, 1].as_slice());

@@ -106,10 +106,15 @@ fn why(rt: &impl Abort, book: &mut Book) -> (Reply, u64) {
 }
 
 fn assert_schedule(rt: &impl Abort, reply: Reply, schedule: &[u8]) {
-    let Reply::Consistent(given) = reply else {
+    let Reply::Consistent {
+        schedule: given,
+        fixed,
+    } = reply
+    else {
         panic!(rt; "not consistent");
     };
     assert_eq!(rt; given.as_slice(), schedule);
+    assert!(rt; fixed.is_empty());
 }
 
 /// Takes one task after the other, and delivers what comes of it, while there is one.

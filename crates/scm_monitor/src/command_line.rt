@@ -18,14 +18,16 @@ It reads a script from standard input, one call a line, and writes one reply a l
 /// The calls, each with an example line, at the end of the help.
 const CALLS: &str =
     "The first word of a line is the session that makes the call. An example of each:
-  a open t 2 100 x:w=0 y:w=0   a trace t: two processes, 100 situations at most, two cells of 32 bits
+  a open t 2 100 x:w=0 y:d=?   a trace t: two processes, 100 situations at most, a cell of 32 bits that holds 0 at first,
+                               and one of 64 bits; what that holds at first isn't known
   a claim t 0                  process 0 of t is the session's, which may then report for it
   a release t 0                and is nobody's again
   a do t 0 sw x 1              process 0 stored 1 in x (lw, ld, sd, amoadd.w .. and rw are reported so too)
   a mark t                     marks the present state; the reply has the mark's number
   a back t 0                   returns to mark 0
   a raise t 1000               raises the budget of situations
-  a ask t                      is t consistent? (a ask t 0: as it stood at mark 0)
+  a ask t                      is t consistent? (a ask t 0: as it stood at mark 0) If so, with a schedule; and
+                               with y=7, where cell y must have held 7 at first
   a why t                      the same, with a refutation where it is not
   a show t 0                   the operations of process 0
   a list                       the open traces

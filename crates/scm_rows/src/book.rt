@@ -134,7 +134,7 @@ fn declarations_in_turn(rt: HostRuntime) {
         &rt,
         rt.alloc(),
         &[
-            ("a open t 9 100 x:w=0", "a refused 5 bad-declaration"),
+            ("a open t 33 100 x:w=0", "a refused 5 bad-declaration"),
             ("a open t 1 100", "a refused 5 bad-declaration"),
             ("a open t 1 100 x:w=0 x:d=0", "a refused 5 bad-declaration"),
             (

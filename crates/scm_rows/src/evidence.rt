@@ -1,7 +1,7 @@
 //! The evidence of verdicts, handed to the checkers of foreign schedules and refutations.
 
 use scm_book::{Book, Call, Decl, Entry, Reply};
-use scm_cells::{Name, narrow};
+use scm_cells::{Initial, Name, narrow};
 use scm_schedules::{is_legal, refutes};
 use scm_sequences::{MOST_CELLS, MOST_PROCESSES, Sequences};
 use std::alloc::Global;
@@ -10,11 +10,12 @@ use std::process::Abort;
 /// A session that no script enters.
 const CHECKER: u16 = 300;
 
-/// How a trace was opened: its owner, its number of processes, and what its cells hold at first.
+/// How a trace was opened: its owner, its number of processes, the names of its cells, and what they hold at first.
 #[derive(Drop)]
 struct Opening {
     owner: u16,
     procs: u64,
+    names: Vec<Name>,
     initials: Vec<Option<u64>>,
 }
 
@@ -27,7 +28,7 @@ pub(crate) fn check_evidence(rt: &impl Abort, alloc: Global, entries: &[Entry]) 
         };
         let (earlier, _) = entries.split_at_checked(place).expect(rt, "a place");
         match &entry.reply {
-            Reply::Consistent(_) | Reply::Because(_) => {
+            Reply::Consistent { .. } | Reply::Because(_) => {
                 check_at(rt, alloc, earlier, *name, *mark, &entry.reply);
             }
             Reply::Inconsistent => {
@@ -69,14 +70,22 @@ fn check_at(
         assert!(rt; matches!(book.back(opening.owner, name, mark), Reply::Done));
     }
     let sequences = sequences_of(rt, alloc, &mut book, name, opening.procs);
-    let initials = opening.initials;
+    let Opening {
+        names,
+        initials,
+        ..
+    } = opening;
     let lengths = sequences.lengths();
     assert!(rt; initials.len() <= MOST_CELLS);
     assert!(rt; sequences.names_cells_below(initials.len()));
     assert!(rt; lengths.within(&sequences.lengths()));
     match evidence {
-        Reply::Consistent(schedule) => {
+        Reply::Consistent { schedule, fixed } => {
             assert!(rt; is_legal(&initials, &sequences, &lengths, schedule));
+            let given = initials_given(rt, alloc, &names, &initials, fixed);
+            assert!(rt; given.len() <= MOST_CELLS);
+            assert!(rt; sequences.names_cells_below(given.len()));
+            assert!(rt; is_legal(&given, &sequences, &lengths, schedule));
         }
         Reply::Because(situations) => {
             let refuted = refutes(alloc, &initials, &sequences, &lengths, situations);
@@ -103,6 +112,7 @@ fn opening_of(rt: &impl Abort, alloc: Global, entries: &[Entry], name: Name) -> 
             opening = Some(Opening {
                 owner: entry.session,
                 procs: *procs,
+                names: names_of(rt, alloc, cells),
                 initials: initials_of(rt, alloc, cells),
             });
         }
@@ -113,10 +123,51 @@ fn opening_of(rt: &impl Abort, alloc: Global, entries: &[Entry], name: Name) -> 
 fn initials_of(rt: &impl Abort, alloc: Global, cells: &[Decl]) -> Vec<Option<u64>> {
     let mut initials = Vec::new(alloc);
     for cell in cells {
-        let value = narrow(cell.width, cell.initial).expect(rt, "the number fits");
-        initials.push(Some(value)).expect(rt, "there is memory");
+        let initial = match cell.initial {
+            Initial::Given(number) => {
+                Some(narrow(cell.width, number).expect(rt, "the number fits"))
+            }
+            Initial::Unset => None,
+        };
+        initials.push(initial).expect(rt, "there is memory");
     }
     initials
+}
+
+fn names_of(rt: &impl Abort, alloc: Global, cells: &[Decl]) -> Vec<Name> {
+    let mut names = Vec::new(alloc);
+    for cell in cells {
+        names.push(cell.name).expect(rt, "there is memory");
+    }
+    names
+}
+
+// What the cells hold at first where each unset one holds its fixed value, or 0 where it has none.
+fn initials_given(
+    rt: &impl Abort,
+    alloc: Global,
+    names: &[Name],
+    initials: &[Option<u64>],
+    fixed: &[(Name, u64)],
+) -> Vec<Option<u64>> {
+    let mut given = Vec::new(alloc);
+    for (name, initial) in names.iter().zip(initials) {
+        let value = match initial {
+            Some(value) => *value,
+            None => fixed_value(fixed, *name).unwrap_or(0),
+        };
+        given.push(Some(value)).expect(rt, "there is memory");
+    }
+    given
+}
+
+fn fixed_value(fixed: &[(Name, u64)], name: Name) -> Option<u64> {
+    for (cell, value) in fixed {
+        if *cell == name {
+            return Some(*value);
+        }
+    }
+    None
 }
 
 // The sequences of a trace, as they are shown.

@@ -215,6 +215,44 @@ fn independent_reads(rt: HostRuntime) {
     );
 }
 
+/// A recorder that joins late: cells that are unset, what they must have held, and two loads that can't both be right.
+#[test]
+fn joining_late(rt: HostRuntime) {
+    expect_exchanges(
+        &rt,
+        rt.alloc(),
+        &[
+            ("a open late 2 100 data:w=? flag:w=? log:d=?", "a ok"),
+            ("a claim late 0", "a ok"),
+            ("b claim late 1", "b ok"),
+            ("a ask late", "a consistent 0"),
+            ("b do late 1 lw flag 1", "b ok"),
+            ("b do late 1 lw data 42", "b ok"),
+            ("a ask late", "a consistent 2 1 1 with data=42 flag=1"),
+            ("a do late 0 sd log 7", "a ok"),
+            ("b do late 1 ld log 7", "b ok"),
+            ("a ask late", "a consistent 4 1 1 0 1 with data=42 flag=1"),
+            ("a mark late", "a ok 0"),
+            ("a do late 0 amoswap.w flag 1 0", "a ok"),
+            ("a ask late", "a consistent 5 0 0 1 1 1 with data=42 flag=0"),
+            ("b do late 1 lw flag 0", "b ok"),
+            ("a ask late", "a inconsistent"),
+            (
+                "a why late",
+                "a because 12 0,0/?,?,? 0,1/?,1,? 0,2/42,1,? 0,3/42,1,7 1,0/?,?,7 1,1/?,1,7 1,2/42,1,7 1,3/42,1,7 2,0/?,1,7 2,1/?,1,7 2,2/42,1,7 2,3/42,1,7",
+            ),
+            ("a ask late 0", "a consistent 4 1 1 0 1 with data=42 flag=1"),
+            ("a open torn 2 100 x:w=?", "a ok"),
+            ("a claim torn 0", "a ok"),
+            ("b claim torn 1", "b ok"),
+            ("a do torn 0 lw x 1", "a ok"),
+            ("b do torn 1 lw x 2", "b ok"),
+            ("a ask torn", "a inconsistent"),
+            ("a why torn", "a because 3 0,0/? 0,1/2 1,0/1"),
+        ],
+    );
+}
+
 /// Load buffering: no load sees a store that comes after it.
 #[test]
 fn load_buffering(rt: HostRuntime) {

@@ -14,6 +14,8 @@ mod examples;
 #[cfg(test)]
 mod journals;
 #[cfg(test)]
+mod limits;
+#[cfg(test)]
 mod lines;
 #[cfg(test)]
 mod litmus;
@@ -25,3 +27,5 @@ mod refusals;
 mod refutations;
 #[cfg(test)]
 mod script;
+#[cfg(test)]
+mod unset;

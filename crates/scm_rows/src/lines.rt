@@ -65,10 +65,10 @@ fn bytes_past_ascii(rt: HostRuntime) {
 fn long_lines(rt: HostRuntime) -> Result<(), Fail> {
     let mut script = Vec::new(rt.alloc());
     for (spaces, ending) in [
-        (1017usize, b"\n".as_slice()),
-        (1016, b"\r\n"),
-        (1017, b"\r\n"),
-        (1018, b"\n"),
+        (4089usize, b"\n".as_slice()),
+        (4088, b"\r\n"),
+        (4089, b"\r\n"),
+        (4090, b"\n"),
     ] {
         script.extend_from_slice(b"a ask t")?;
         for _ in 0..spaces {
@@ -103,7 +103,7 @@ fn too_many_sessions(rt: HostRuntime) -> Result<(), Fail> {
 #[test]
 fn lines_that_are_too_long_or_unnamed(rt: HostRuntime) -> Result<(), Fail> {
     let mut script = Vec::new(rt.alloc());
-    for _ in 0..1025 {
+    for _ in 0..4097 {
         script.push(b'a')?;
     }
     script.extend_from_slice(b"\nA list\na list")?;
@@ -117,7 +117,7 @@ fn lines_that_are_too_long_or_unnamed(rt: HostRuntime) -> Result<(), Fail> {
 #[test]
 fn a_comment_that_is_too_long(rt: HostRuntime) -> Result<(), Fail> {
     let mut script = Vec::new(rt.alloc());
-    for _ in 0..1025 {
+    for _ in 0..4097 {
         script.push(b'#')?;
     }
     script.extend_from_slice(b"\n# short\n")?;

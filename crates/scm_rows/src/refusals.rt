@@ -9,26 +9,14 @@ fn bad_declarations(rt: HostRuntime) {
     expect_replies(
         &rt,
         rt.alloc(),
-        "a open t 9 100 x:w=0\na open t 0 100 x:w=0\na open t 1 100\na open t 1 100 x:w=0 x:w=0\n\
+        "a open t 33 100 x:w=0\na open t 0 100 x:w=0\na open t 1 100\na open t 1 100 x:w=0 x:w=0\n\
          a open t 1 100 x:w=4294967296\na open t 1 0 x:w=0\na open t 1 1000001 x:w=0\n\
-         a open t 1 100 x:q=0\na open t 9 0 x:w=0\na open t 1 1 x:w=0\na open t 1 0 x:w=0\n\
+         a open t 1 100 x:q=0\na open t 33 0 x:w=0\na open t 1 1 x:w=0\na open t 1 0 x:w=0\n\
          a open t 1 1 x:w=0\n",
         "a refused 5 bad-declaration\na refused 5 bad-declaration\na refused 5 bad-declaration\n\
          a refused 5 bad-declaration\na refused 5 bad-declaration\na refused 16 bad-budget\n\
          a refused 16 bad-budget\na refused 1 bad-line\na refused 5 bad-declaration\na ok\n\
          a refused 16 bad-budget\na refused 3 name-taken\n",
-    );
-}
-
-/// Sixteen cells are taken, seventeen aren't.
-#[test]
-fn seventeen_cells(rt: HostRuntime) {
-    expect_replies(
-        &rt,
-        rt.alloc(),
-        "a open t 8 1000000 c0:w=0 c1:w=0 c2:w=0 c3:w=0 c4:w=0 c5:w=0 c6:w=0 c7:w=0 c8:w=0 c9:w=0 c10:w=0 c11:w=0 c12:w=0 c13:w=0 c14:w=0 c15:w=0\n\
-         a open u 1 1 c0:w=0 c1:w=0 c2:w=0 c3:w=0 c4:w=0 c5:w=0 c6:w=0 c7:w=0 c8:w=0 c9:w=0 c10:w=0 c11:w=0 c12:w=0 c13:w=0 c14:w=0 c15:w=0 c16:w=0\n",
-        "a ok\na refused 5 bad-declaration\n",
     );
 }
 

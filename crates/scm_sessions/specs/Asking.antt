@@ -4,7 +4,8 @@ use Rattle.std.specs.Option.{option_and_then, option_map, option_map_or}
 use Rattle.scm_cells.specs.declared.width.Width.{Width}
 use Rattle.scm_cells.specs.declared.width.Width.TheVariants.{W, D}
 use Rattle.scm_cells.specs.Names.{is_name}
-use Rattle.scm_cells.specs.Numbers.{count_of_word, number_of_word}
+use Rattle.scm_cells.specs.Numbers.{count_of_word}
+use Rattle.scm_cells.specs.Initials.{initial_of_word}
 use Rattle.scm_lowering.specs.Accesses.{access_of_words}
 use Rattle.scm_book.specs.declared.call.Decl.{Decl}
 use Rattle.scm_book.specs.Calls.{CallData, opens, claims, releases, reports, sets_mark, goes_back, raises, asks, asks_why, shows, lists, closes}
@@ -27,12 +28,13 @@ pub data Asked : Type 0 where
 abbrev pub width_of_letter : ℕ → Option Width
 width_of_letter b = if b == 119 then Some W else (if b == 100 then Some D else None)
 
--- what stands before and after the colon of a declaration: a name, and the letter of a width, '=' and a number
+-- what stands before and after the colon of a declaration: a name, and the letter of a width, '=' and what the cell holds
+-- at first
 abbrev pub declaration_of : List ℕ → List ℕ → Option Decl
-declaration_of name (letter ∷ equals ∷ number) =
+declaration_of name (letter ∷ equals ∷ rest) =
     if is_name name && equals == 61 then
     option_and_then (λ width. option_map (λ initial. record { name = name; width = width; initial = initial })
-    (number_of_word number)) (width_of_letter letter)
+    (initial_of_word rest)) (width_of_letter letter)
     else None
 declaration_of name _ = None
 

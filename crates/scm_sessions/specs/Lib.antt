@@ -10,6 +10,7 @@ pub mod JournalText
 pub use Rattle.scm_sequences.specs.Refusals
 pub use Rattle.scm_cells.specs.Names
 pub use Rattle.scm_cells.specs.Numbers
+pub use Rattle.scm_cells.specs.Initials
 pub use Rattle.scm_lowering.specs.Accesses
 pub use Rattle.scm_book.specs.Calls
 pub use Rattle.scm_book.specs.Machine

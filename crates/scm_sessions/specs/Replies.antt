@@ -43,10 +43,20 @@ content_text (Some value) = decimal value
 abbrev pub situation_text : Situated → List ℕ
 situation_text s = codes " " ++ joined (map decimal s.counts) ++ codes "/" ++ joined (map content_text s.contents)
 
+-- a fixed value, with a space before it: the name of its cell, '=' and the value
+abbrev pub fixed_text : List ℕ × ℕ → List ℕ
+fixed_text value = spaced_word value.0 ++ codes "=" ++ decimal value.1
+
+-- the fixed values behind a schedule, nothing where there are none
+abbrev pub with_text : List (List ℕ × ℕ) → List ℕ
+with_text [] = []
+with_text (first ∷ others) = codes " with" ++ flat_map fixed_text (first ∷ others)
+
 abbrev pub reply_text : ReplyData → List ℕ
 reply_text done = codes "ok"
 reply_text (marked mark) = codes "ok " ++ decimal mark
-reply_text (consistent schedule) = codes "consistent " ++ decimal (length schedule) ++ flat_map spaced schedule
+reply_text (consistent schedule fixed) =
+    codes "consistent " ++ decimal (length schedule) ++ flat_map spaced schedule ++ with_text fixed
 reply_text inconsistent = codes "inconsistent"
 reply_text undecided = codes "undecided"
 reply_text (because situations) =

@@ -4,7 +4,7 @@ ghost use Rattle.scm_sequences.specs.declared.refusal.Refusal.TheVariants.{BadLi
 ghost use Rattle.scm_sessions.specs.Asking.{width_of_letter, declaration_of, declaration_of_word, declarations_of_words};
 
 use scm_book::Decl;
-use scm_cells::{Name, Width, read_num};
+use scm_cells::{Name, Width, read_initial};
 use scm_sequences::Refusal;
 use std::alloc::Global;
 
@@ -19,11 +19,11 @@ fn read_width(letter: u8) -> Option<Width>
     }
 }
 
-/// The cell of this name, with what stands after its colon: the letter of its width, an equals sign and a number.
+/// The cell of this name, with what stands after its colon: the letter of its width, an equals sign and what it holds at first.
 fn declaration(name: &[u8], rest: &[u8]) -> Option<Decl>
     ensures { result ≡ declaration_of name.now rest.now }
 {
-    let [letter, equals, number @ ..] = rest else {
+    let [letter, equals, initial @ ..] = rest else {
         return None;
     };
     if *equals != b'=' {
@@ -32,7 +32,7 @@ fn declaration(name: &[u8], rest: &[u8]) -> Option<Decl>
     Some(Decl {
         name: Name::read(name)?,
         width: read_width(*letter)?,
-        initial: read_num(number)?,
+        initial: read_initial(initial)?,
     })
 }
 

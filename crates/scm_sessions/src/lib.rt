@@ -16,6 +16,7 @@ mod run;
 mod sessions;
 mod shown;
 mod situations;
+mod verdicts;
 mod words;
 mod writing;
 

@@ -1,6 +1,6 @@
 //! The text of replies.
 ghost use Rattle.std.specs.Prelude.{◌≡◌, codes, false, is_err, option_copied, unwrap_or, IfErr};
-ghost use Rattle.scm_book.specs.Calls.{reply_data, marked, consistent, listed, refused};
+ghost use Rattle.scm_book.specs.Calls.{reply_data, marked, listed, refused};
 ghost use Rattle.scm_sessions.specs.Ports.{inner_of, has_failed, reads_of, Writes, Sends};
 ghost use Rattle.scm_sessions.specs.Replies.{reply_text, reply_line};
 
@@ -28,17 +28,6 @@ fn shown(name: Option<&Name>) -> &[u8]
 }
 
 impl<W: Write> Port<W> {
-    /// Puts the reply that a trace is consistent, with the process numbers of a schedule.
-    fn put_consistent(&mut self, schedule: &[u8])
-        ensures bytes { Sends (W.contents (inner_of self.old)) (has_failed self.old)
-            (W.contents (inner_of self.new)) (has_failed self.new) (reply_text (consistent schedule.now)) }
-        ensures reads { reads_of self.new ≡ reads_of self.old }
-    {
-        self.put(b"consistent ");
-        self.put_number(schedule.len() as u64);
-        self.put_numbers(schedule);
-    }
-
     /// Puts the number of a mark that was set.
     fn put_mark(&mut self, mark: u64)
         ensures bytes { Sends (W.contents (inner_of self.old)) (has_failed self.old)
@@ -81,7 +70,7 @@ impl<W: Write> Port<W> {
         match reply {
             Reply::Done => self.put(b"ok"),
             Reply::MarkSet(mark) => self.put_mark(*mark),
-            Reply::Consistent(schedule) => self.put_consistent(schedule),
+            Reply::Consistent { schedule, fixed } => self.put_consistent(schedule, fixed),
             Reply::Inconsistent => self.put(b"inconsistent"),
             Reply::Undecided => self.put(b"undecided"),
             Reply::Because(situations) => self.put_refutation(situations),

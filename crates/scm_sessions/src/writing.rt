@@ -30,7 +30,7 @@ impl<W: Write> Port<W> {
     }
 
     /// Puts a space and a name.
-    fn put_spaced_name(&mut self, name: Name)
+    pub(crate) fn put_spaced_name(&mut self, name: Name)
         ensures bytes { Sends (W.contents (inner_of self.old)) (has_failed self.old)
             (W.contents (inner_of self.new)) (has_failed self.new) (spaced_word name) }
         ensures reads { reads_of self.new ≡ reads_of self.old }

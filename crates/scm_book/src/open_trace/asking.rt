@@ -33,6 +33,7 @@ impl OpenTrace {
             let lengths = self.sequences.lengths();
             return Ok(verdict(
                 alloc,
+                &self.cells,
                 &mut self.reach,
                 &self.sequences,
                 &lengths,
@@ -43,6 +44,7 @@ impl OpenTrace {
         let lengths = self.marks.get(mark)?;
         Ok(verdict(
             alloc,
+            &self.cells,
             &mut self.reach,
             &self.sequences,
             lengths,
@@ -69,6 +71,7 @@ impl OpenTrace {
             let lengths = self.sequences.lengths();
             return Ok(explanation(
                 alloc,
+                &self.cells,
                 &mut self.reach,
                 &self.sequences,
                 &lengths,
@@ -79,6 +82,7 @@ impl OpenTrace {
         let lengths = self.marks.get(mark)?;
         Ok(explanation(
             alloc,
+            &self.cells,
             &mut self.reach,
             &self.sequences,
             lengths,

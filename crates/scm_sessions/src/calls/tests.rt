@@ -27,6 +27,7 @@ fn lines_ask_for_calls(rt: HostRuntime) -> Result<(), Fail> {
         "a close t",
         "a list",
         "a list \t",
+        "a open t 2 100 x:w=? y:d=? z:w=0",
     ];
     for line in table {
         assert!(rt; read_line(rt.alloc(), line.as_bytes()).is_ok(), "{line}");
@@ -108,7 +109,9 @@ fn bad_lines_are_refused(rt: HostRuntime) {
         "a open t 2 100 x:q=0",
         "a open t 2 100 x:w0",
         "a open t 2 100 x:w=",
-        "a open t 2 100 x:w=?",
+        "a open t 2 100 x:w=??",
+        "a open t 2 100 x:w=?0",
+        "a do t 1 lw x ?",
         "a open t 2 100 :w=0",
         "a ask t\x01",
         "a ask \u{e9}",

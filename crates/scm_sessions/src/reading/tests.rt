@@ -61,11 +61,11 @@ fn scripts_are_cut_at_line_feeds(rt: HostRuntime) -> Result<(), Fail> {
 fn a_line_has_at_most_the_limit(rt: HostRuntime) -> Result<(), Fail> {
     // how many bytes, with which last one; whether the line is kept
     let table = [
-        (1023, b'x', true),
-        (1024, b'x', true),
-        (1024, b'\r', true),
-        (1025, b'x', false),
-        (1025, b'\r', false),
+        (4095, b'x', true),
+        (4096, b'x', true),
+        (4096, b'\r', true),
+        (4097, b'x', false),
+        (4097, b'\r', false),
         (5000, b'x', false),
     ];
     for (len, last, is_kept) in table {

@@ -21,6 +21,14 @@ fn line_of(alloc: Global, name: Option<&Name>, reply: &Reply) -> Result<Vec<u8>,
     Ok(port.into_inner().taken)
 }
 
+/// The reply that a trace is consistent.
+fn consistent(alloc: Global, schedule: &[u8], fixed: &[(Name, u64)]) -> Result<Reply, NoMemory> {
+    Ok(Reply::Consistent {
+        schedule: schedule.to_vec(alloc)?,
+        fixed: fixed.to_vec(alloc)?,
+    })
+}
+
 /// The situations of a process beside another, before and after its one operation.
 fn refutation(alloc: Global, initials: &[Option<u64>; 2], op: Op) -> Result<Reply, NoMemory>
     requires { cell_of op < 2 }
@@ -38,19 +46,30 @@ fn refutation(alloc: Global, initials: &[Option<u64>; 2], op: Op) -> Result<Repl
 #[test]
 fn replies_have_their_text(rt: HostRuntime) -> Result<(), Fail> {
     let name = Name::read(b"amy").ok_or("no name")?;
+    let x = Name::read(b"x").ok_or("no name")?;
     let table = [
         (None, Reply::Done, "? ok\n"),
         (Some(name), Reply::Done, "amy ok\n"),
         (Some(name), Reply::MarkSet(7), "amy ok 7\n"),
         (
             Some(name),
-            Reply::Consistent(Vec::new(rt.alloc())),
+            consistent(rt.alloc(), &[], &[])?,
             "amy consistent 0\n",
         ),
         (
             Some(name),
-            Reply::Consistent([1, 0, 7].to_vec(rt.alloc())?),
+            consistent(rt.alloc(), &[1, 0, 7], &[])?,
             "amy consistent 3 1 0 7\n",
+        ),
+        (
+            Some(name),
+            consistent(rt.alloc(), &[1, 0], &[(x, 7)])?,
+            "amy consistent 2 1 0 with x=7\n",
+        ),
+        (
+            Some(name),
+            consistent(rt.alloc(), &[0], &[(x, 0), (name, u64::MAX)])?,
+            "amy consistent 1 0 with x=0 amy=18446744073709551615\n",
         ),
         (Some(name), Reply::Inconsistent, "amy inconsistent\n"),
         (Some(name), Reply::Undecided, "amy undecided\n"),

@@ -100,7 +100,7 @@ fn a_write_fault_ends_the_run(rt: HostRuntime) {
 fn some_lines_are_bad_and_some_ask_for_nothing(rt: HostRuntime) -> Result<(), Fail> {
     let mut script = Vec::new(rt.alloc());
     script.extend_from_slice(b"# a comment\n\n \t\r\n\r\nA list\na fly t\n# \xff\n")?;
-    for _ in 0..1025u32 {
+    for _ in 0..4097u32 {
         script.push(b'#')?;
     }
     script.extend_from_slice(b"\nb ask")?;

@@ -13,7 +13,7 @@ pub returns-in_default-clause-ok : goal.returns-in_default-clause-ok
 returns-in_default-clause-ok c = (
   ap (question_cause c.args.self.now.state) c.in_default.is,
   (
-    about_present (λ t budget. Fits t budget (reply_data c.in_ok-explanation.field-0)) _ c.args.self.now.state c.args.mark c.limit-limit.result c.lengths-lengths.result (ap (λ (k : KeptTrace). k.state) c.self.view_is) c.in_default.is c.limit-limit.ensures.limit c.lengths-lengths.ensures (subst (λ i. Fits (cut_to (trace_of i c.self.inside.sequences) c.lengths-lengths.result) c.limit-limit.result (reply_data c.in_ok-explanation.field-0)) c.self.invariant.1.initials c.in_ok-explanation.ensures.fits),
+    about_present (λ cells t budget. Fits cells t budget (reply_data c.in_ok-explanation.field-0)) _ c.args.self.now.state c.args.mark c.limit-limit.result c.lengths-lengths.result (ap (λ (k : KeptTrace). k.state) c.self.view_is) c.in_default.is c.limit-limit.ensures.limit c.lengths-lengths.ensures (subst (λ i. Fits c.self.inside.cells (cut_to (trace_of i c.self.inside.sequences) c.lengths-lengths.result) c.limit-limit.result (reply_data c.in_ok-explanation.field-0)) c.self.invariant.1.initials c.in_ok-explanation.ensures.fits),
     c.in_ok-explanation.ensures.refuted,
   ),
 )
