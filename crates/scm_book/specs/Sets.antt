@@ -77,7 +77,7 @@ IsKnownBy reply sequences lengths members = ⊤
 pub record Searches (state : TraceState) (reply : ReplyData) (before after : ℕ) (lengths : List ℕ) (old new : Kept) : Type 0 where
   pub initials : new.initials ≡ old.initials
   pub work : KeepsWork (record { sequences = state.sequences; lengths = lengths }) state.budget old.members before new.members after
-  -- so the same question again makes no step
+  -- so after any verdict but undecided the same question again makes no step
   pub known : IsKnownBy reply state.sequences lengths new.members
 
 -- no set changed, and no step was made
