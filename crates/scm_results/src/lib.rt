@@ -7,6 +7,8 @@ mod naming;
 mod results;
 mod tally;
 #[cfg(test)]
+mod tally_tests;
+#[cfg(test)]
 mod tests;
 mod totals;
 

@@ -150,7 +150,12 @@ impl<B: Naming> Totals<B> {
         let mut taken_sum = 0;
         let mut delivered_sum = 0;
         for tally in tallies {
-            let Tally { taken: more_taken, delivered: more_delivered, of_taken, of_delivered } = tally;
+            let Tally {
+                taken: more_taken,
+                delivered: more_delivered,
+                of_taken,
+                of_delivered,
+            } = tally;
             all_of_taken.merge(of_taken);
             all_of_delivered.merge(of_delivered);
             taken.audit(&mut all_of_taken);
