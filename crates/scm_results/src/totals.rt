@@ -109,6 +109,7 @@ impl<B: Naming> Totals<B> {
         ensures results { self.new.results ≡ sum_of self.old.results other.now }
         ensures given { self.new.given ≡ self.old.given }
         ensures tally { RisesAlike self.old.results self.new.results tally.old tally.new }
+        ensures none_taken { other.now.taken ≡ 0 → tally.new.taken ≡ tally.old.taken }
     {
         let mut results = self.results;
         results.add(other);
