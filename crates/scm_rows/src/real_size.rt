@@ -1,0 +1,148 @@
+//! Rows of real size: thousands of situations, operations and tasks, and the longest names.
+use crate::script::replies_to;
+use scm_book::{Book, run_events};
+use scm_expand::{Outcome, Task, expand};
+use scm_sessions::{Port, run_script};
+use std::alloc::{AllocError, Global};
+use std::process::Abort;
+use std::test::Fail;
+
+/// Names of `LONGEST_NAME` bytes.
+const SESSION: &str = "session_of_thirty_two_bytes_long";
+
+const TRACE: &str = "trace_which_has_thirty_two_bytes";
+
+const CELL: &str = "cell_that_keeps_thirty_two_bytes";
+
+const OTHER: &str = "other_cell_that_has_32_bytes_too";
+
+/// Stores of a process, of the numbers from 1 to `stores`.
+fn add_stores(
+    script: &mut String,
+    alloc: Global,
+    process: u8,
+    cell: &str,
+    stores: u32,
+) -> Result<(), AllocError> {
+    for value in 1..=stores {
+        let line = format!(in alloc; "{SESSION} do {TRACE} {process} sw {cell} {value}\n")?;
+        script.push_str(line.as_str())?;
+    }
+    Ok(())
+}
+
+/// Opens the trace of two processes, each of which makes this many stores in its own cell. All names have 32 bytes.
+fn grid(alloc: Global, stores: u32) -> Result<String, AllocError> {
+    let mut script = format!(in alloc;
+        "{SESSION} open {TRACE} 2 10000 {CELL}:w=0 {OTHER}:w=0\n{SESSION} claim {TRACE} 0\n{SESSION} claim {TRACE} 1\n"
+    )?;
+    add_stores(&mut script, alloc, 0, CELL, stores)?;
+    add_stores(&mut script, alloc, 1, OTHER, stores)?;
+    Ok(script)
+}
+
+/// As many lines `SESSION ok`.
+fn add_oks(replies: &mut String, alloc: Global, count: u32) -> Result<(), AllocError> {
+    let line = format!(in alloc; "{SESSION} ok\n")?;
+    for _ in 0..count {
+        replies.push_str(line.as_str())?;
+    }
+    Ok(())
+}
+
+/// Two processes make 70 stores each, and then one loads what was never stored: all 71 times 71 situations are reached,
+/// and none is whole.
+#[test]
+fn thousands_of_situations(rt: HostRuntime) -> Result<(), Fail> {
+    let mut script = grid(rt.alloc(), 70)?;
+    let questions = format!(in rt.alloc();
+        "{SESSION} do {TRACE} 1 lw {CELL} 99\n{SESSION} ask {TRACE}\n{SESSION} why {TRACE}\n{SESSION} list\n"
+    )?;
+    script.push_str(questions.as_str())?;
+
+    let mut replies = String::new(rt.alloc());
+    add_oks(&mut replies, rt.alloc(), 144)?;
+    let verdicts = format!(in rt.alloc(); "{SESSION} inconsistent\n{SESSION} because 5041")?;
+    replies.push_str(verdicts.as_str())?;
+    for first in 0..=70 {
+        for second in 0..=70 {
+            let situation = format!(in rt.alloc(); " {first},{second}/{first},{second}")?;
+            replies.push_str(situation.as_str())?;
+        }
+    }
+    let listed = format!(in rt.alloc(); "\n{SESSION} traces 1 {TRACE}\n")?;
+    replies.push_str(listed.as_str())?;
+    let written = replies_to(&rt, rt.alloc(), script.as_bytes());
+    assert!(rt; written.as_slice() == replies.as_bytes());
+    Ok(())
+}
+
+/// One process of 66,000 operations, more than 16 bits can count: its schedule, and its operations as they are shown.
+#[test]
+fn a_long_process(rt: HostRuntime) -> Result<(), Fail> {
+    let mut script = format!(in rt.alloc();
+        "{SESSION} open {TRACE} 1 1000000 {CELL}:w=0\n{SESSION} claim {TRACE} 0\n"
+    )?;
+    add_stores(&mut script, rt.alloc(), 0, CELL, 66_000)?;
+    let questions = format!(in rt.alloc(); "{SESSION} ask {TRACE}\n{SESSION} show {TRACE} 0\n")?;
+    script.push_str(questions.as_str())?;
+
+    let mut replies = String::new(rt.alloc());
+    add_oks(&mut replies, rt.alloc(), 66_002)?;
+    let verdict = format!(in rt.alloc(); "{SESSION} consistent 66000")?;
+    replies.push_str(verdict.as_str())?;
+    for _ in 0..66_000u32 {
+        replies.push_str(" 0")?;
+    }
+    let shown = format!(in rt.alloc(); "\n{SESSION} ops 66000")?;
+    replies.push_str(shown.as_str())?;
+    for value in 1..=66_000u32 {
+        let operation = format!(in rt.alloc(); " W {CELL} {value}")?;
+        replies.push_str(operation.as_str())?;
+    }
+    replies.push_str("\n")?;
+    let written = replies_to(&rt, rt.alloc(), script.as_bytes());
+    assert!(rt; written.as_slice() == replies.as_bytes());
+    Ok(())
+}
+
+/// What comes of these tasks.
+fn expand_all(
+    rt: &impl Abort,
+    alloc: Global,
+    tasks: Vec<Task>,
+) -> Result<Vec<Outcome>, AllocError> {
+    let mut outcomes = Vec::new(alloc);
+    for task in tasks {
+        let Ok(outcome) = expand(task) else {
+            panic!(rt; "no memory");
+        };
+        outcomes.push(outcome)?;
+    }
+    Ok(outcomes)
+}
+
+/// Workers go over two processes of 40 stores round by round. In round k each of the k situations with k - 1 operations has
+/// two tasks, and all come though a hundred were asked for; they lead to k + 1 new situations.
+#[test]
+fn more_tasks_than_are_there(rt: HostRuntime) -> Result<(), Fail> {
+    let script = grid(rt.alloc(), 40)?;
+    let mut reader = Port::new(script.as_bytes());
+    let mut writer = Port::new(Vec::new(rt.alloc()));
+    let (mut book, _) = run_script(rt.alloc(), Book::new(rt.alloc()), &mut reader, &mut writer)?;
+    for round in 1..=40 {
+        let tasks = book.take(100)?;
+        assert_eq!(rt; tasks.len(), 2 * round);
+        let delivered = book.deliver(expand_all(&rt, rt.alloc(), tasks)?);
+        assert_eq!(rt; delivered.accepted, round as u64 + 1);
+        assert_eq!(rt; delivered.known, round as u64 - 1);
+    }
+
+    let Ok((book, replies)) = run_events(rt.alloc(), book, Vec::new(rt.alloc())) else {
+        return Err("no memory for no event".into());
+    };
+    assert!(rt; replies.is_empty());
+    assert_eq!(rt; book.entries().len(), 83);
+    assert_eq!(rt; book.results().taken, 1640);
+    Ok(())
+}
