@@ -1,5 +1,4 @@
 //! Rows of real size: thousands of situations, operations and tasks, and the longest names.
-use crate::script::replies_to;
 use scm_book::{Book, run_events};
 use scm_expand::{Outcome, Task, expand};
 use scm_sessions::{Port, run_script};
@@ -15,6 +14,15 @@ const TRACE: &str = "trace_which_has_thirty_two_bytes";
 const CELL: &str = "cell_that_keeps_thirty_two_bytes";
 
 const OTHER: &str = "other_cell_that_has_32_bytes_too";
+
+/// The replies to a script. Its evidence isn't handed to the checkers: each reply is known word by word.
+fn replies_to(rt: &impl Abort, alloc: Global, script: &str) -> Vec<u8> {
+    let mut reader = Port::new(script.as_bytes());
+    let mut writer = Port::new(Vec::new(alloc));
+    let ended = run_script(alloc, Book::new(alloc), &mut reader, &mut writer);
+    let _book = ended.expect(rt, "the run ended without a fault");
+    writer.into_inner()
+}
 
 /// Stores of a process, of the numbers from 1 to `stores`.
 fn add_stores(
@@ -72,7 +80,7 @@ fn thousands_of_situations(rt: HostRuntime) -> Result<(), Fail> {
     }
     let listed = format!(in rt.alloc(); "\n{SESSION} traces 1 {TRACE}\n")?;
     replies.push_str(listed.as_str())?;
-    let written = replies_to(&rt, rt.alloc(), script.as_bytes());
+    let written = replies_to(&rt, rt.alloc(), script.as_str());
     assert!(rt; written.as_slice() == replies.as_bytes());
     Ok(())
 }
@@ -101,7 +109,7 @@ fn a_long_process(rt: HostRuntime) -> Result<(), Fail> {
         replies.push_str(operation.as_str())?;
     }
     replies.push_str("\n")?;
-    let written = replies_to(&rt, rt.alloc(), script.as_bytes());
+    let written = replies_to(&rt, rt.alloc(), script.as_str());
     assert!(rt; written.as_slice() == replies.as_bytes());
     Ok(())
 }
