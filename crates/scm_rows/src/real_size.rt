@@ -24,16 +24,15 @@ fn replies_to(rt: &impl Abort, alloc: Global, script: &str) -> Vec<u8> {
     writer.into_inner()
 }
 
-/// Stores of a process, of the numbers from 1 to `stores`.
+/// Reports of stores, of the numbers from 1 to `stores`; each line begins with these words.
 fn add_stores(
     script: &mut String,
     alloc: Global,
-    process: u8,
-    cell: &str,
+    words: &str,
     stores: u32,
 ) -> Result<(), AllocError> {
     for value in 1..=stores {
-        let line = format!(in alloc; "{SESSION} do {TRACE} {process} sw {cell} {value}\n")?;
+        let line = format!(in alloc; "{words} {value}\n")?;
         script.push_str(line.as_str())?;
     }
     Ok(())
@@ -44,18 +43,11 @@ fn grid(alloc: Global, stores: u32) -> Result<String, AllocError> {
     let mut script = format!(in alloc;
         "{SESSION} open {TRACE} 2 10000 {CELL}:w=0 {OTHER}:w=0\n{SESSION} claim {TRACE} 0\n{SESSION} claim {TRACE} 1\n"
     )?;
-    add_stores(&mut script, alloc, 0, CELL, stores)?;
-    add_stores(&mut script, alloc, 1, OTHER, stores)?;
+    let first = format!(in alloc; "{SESSION} do {TRACE} 0 sw {CELL}")?;
+    let second = format!(in alloc; "{SESSION} do {TRACE} 1 sw {OTHER}")?;
+    add_stores(&mut script, alloc, first.as_str(), stores)?;
+    add_stores(&mut script, alloc, second.as_str(), stores)?;
     Ok(script)
-}
-
-/// As many lines `SESSION ok`.
-fn add_oks(replies: &mut String, alloc: Global, count: u32) -> Result<(), AllocError> {
-    let line = format!(in alloc; "{SESSION} ok\n")?;
-    for _ in 0..count {
-        replies.push_str(line.as_str())?;
-    }
-    Ok(())
 }
 
 /// Two processes make 70 stores each, and then one loads what was never stored: all 71 times 71 situations are reached,
@@ -64,12 +56,15 @@ fn add_oks(replies: &mut String, alloc: Global, count: u32) -> Result<(), AllocE
 fn thousands_of_situations(rt: HostRuntime) -> Result<(), Fail> {
     let mut script = grid(rt.alloc(), 70)?;
     let questions = format!(in rt.alloc();
-        "{SESSION} do {TRACE} 1 lw {CELL} 99\n{SESSION} ask {TRACE}\n{SESSION} why {TRACE}\n{SESSION} list\n"
+        "{SESSION} do {TRACE} 1 lw {CELL} 99\n{SESSION} ask {TRACE}\n{SESSION} why {TRACE}\n{SESSION} list\n{SESSION} show {TRACE} 0\n"
     )?;
     script.push_str(questions.as_str())?;
 
     let mut replies = String::new(rt.alloc());
-    add_oks(&mut replies, rt.alloc(), 144)?;
+    for _ in 0..144u8 {
+        replies.push_str(SESSION)?;
+        replies.push_str(" ok\n")?;
+    }
     let verdicts = format!(in rt.alloc(); "{SESSION} inconsistent\n{SESSION} because 5041")?;
     replies.push_str(verdicts.as_str())?;
     for first in 0..=70 {
@@ -78,8 +73,13 @@ fn thousands_of_situations(rt: HostRuntime) -> Result<(), Fail> {
             replies.push_str(situation.as_str())?;
         }
     }
-    let listed = format!(in rt.alloc(); "\n{SESSION} traces 1 {TRACE}\n")?;
+    let listed = format!(in rt.alloc(); "\n{SESSION} traces 1 {TRACE}\n{SESSION} ops 70")?;
     replies.push_str(listed.as_str())?;
+    for value in 1..=70 {
+        let operation = format!(in rt.alloc(); " W {CELL} {value}")?;
+        replies.push_str(operation.as_str())?;
+    }
+    replies.push_str("\n")?;
     let written = replies_to(&rt, rt.alloc(), script.as_str());
     assert!(rt; written.as_slice() == replies.as_bytes());
     Ok(())
@@ -88,24 +88,22 @@ fn thousands_of_situations(rt: HostRuntime) -> Result<(), Fail> {
 /// One process of 66,000 operations, more than 16 bits can count: its schedule, and its operations as they are shown.
 #[test]
 fn a_long_process(rt: HostRuntime) -> Result<(), Fail> {
-    let mut script = format!(in rt.alloc();
-        "{SESSION} open {TRACE} 1 1000000 {CELL}:w=0\n{SESSION} claim {TRACE} 0\n"
-    )?;
-    add_stores(&mut script, rt.alloc(), 0, CELL, 66_000)?;
-    let questions = format!(in rt.alloc(); "{SESSION} ask {TRACE}\n{SESSION} show {TRACE} 0\n")?;
-    script.push_str(questions.as_str())?;
+    let mut script = String::new(rt.alloc());
+    script.push_str("a open t 1 1000000 x:w=0\na claim t 0\n")?;
+    add_stores(&mut script, rt.alloc(), "a do t 0 sw x", 66_000)?;
+    script.push_str("a ask t\na show t 0\n")?;
 
     let mut replies = String::new(rt.alloc());
-    add_oks(&mut replies, rt.alloc(), 66_002)?;
-    let verdict = format!(in rt.alloc(); "{SESSION} consistent 66000")?;
-    replies.push_str(verdict.as_str())?;
+    for _ in 0..66_002u32 {
+        replies.push_str("a ok\n")?;
+    }
+    replies.push_str("a consistent 66000")?;
     for _ in 0..66_000u32 {
         replies.push_str(" 0")?;
     }
-    let shown = format!(in rt.alloc(); "\n{SESSION} ops 66000")?;
-    replies.push_str(shown.as_str())?;
+    replies.push_str("\na ops 66000")?;
     for value in 1..=66_000u32 {
-        let operation = format!(in rt.alloc(); " W {CELL} {value}")?;
+        let operation = format!(in rt.alloc(); " W x {value}")?;
         replies.push_str(operation.as_str())?;
     }
     replies.push_str("\n")?;
