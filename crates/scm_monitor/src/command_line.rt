@@ -153,6 +153,10 @@ mod tests {
         Ok(())
     }
 
+    fn is_example(line: &str) -> bool {
+        line.starts_with("  a ")
+    }
+
     /// The word of a call, with what the help says beside its example.
     fn explained_word(call: &Call) -> &'static str {
         match call {
@@ -178,9 +182,8 @@ mod tests {
 
     #[test]
     fn the_examples_of_the_help_are_calls(rt: HostRuntime) -> Result<(), Fail> {
-        let mut examples = 0u32;
         for line in CALLS.split('\n') {
-            if !line.starts_with("  a ") {
+            if !is_example(line) {
                 continue;
             }
             let (example, _) = line.trim_start().split_once("   ").ok_or("no explanation")?;
@@ -189,8 +192,8 @@ mod tests {
             };
             let word = example.split(' ').nth(1);
             assert_eq!(rt; word, Some(explained_word(&call)));
-            examples += 1;
         }
+        let examples = CALLS.split('\n').filter(|line| is_example(line)).count();
         assert_eq!(rt; examples, 12);
         Ok(())
     }
