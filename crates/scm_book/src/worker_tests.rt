@@ -289,6 +289,8 @@ fn events_mixed(rt: HostRuntime) -> Result<(), Fail> {
     assert!(rt; matches!(replies[0], Reply::Traces(_)));
     assert!(rt; matches!(replies[1], Reply::Inconsistent));
     assert!(rt; matches!(replies[2], Reply::Done));
+    // one task was taken before the events, and one was left for the taking among them
+    assert_eq!(rt; book.results().taken, 2);
     assert_eq!(rt; book.results().delivered(), 1);
     assert_eq!(rt; book.results().taken, 2);
     Ok(())
