@@ -3,11 +3,14 @@
 import re
 import sys
 
+MOST_CELLS = 64  # of a trace
+
 # An access has an address, what was stored or given ('data='), and what came back ('->').
 ACCESS = re.compile(r"hart (\d+): (\S+) .*addr=([0-9a-f]+)(?: data=([0-9a-f]+))?(?: -> ([0-9a-f]+))?")
 
 accesses = []  # a hart, its access in the monitor's words
 cells = {}  # a cell's name, and its width
+harts_of = {}  # a cell's name, and the harts that accessed it
 reserved = {}  # a hart, and what its lr saw: the access waits for the sc
 
 
@@ -32,6 +35,7 @@ for line in sys.stdin:
     if not re.fullmatch(r"[ls][wd]|(lr|sc|amo[a-z]+)\.[wd](\.aq|\.rl|\.aqrl)?", name):
         sys.exit(f"to_script: not an access of 32 or 64 bits: {line}")
     cell = "m" + address
+    harts_of.setdefault(cell, set()).add(hart)
     if cells.setdefault(cell, width) != width:
         sys.exit(f"to_script: {cell} is accessed in both widths: {line}")
 
@@ -56,6 +60,11 @@ for hart in list(reserved):
 
 if not accesses:
     sys.exit("to_script: the log has no access in this format")
+if len(cells) > MOST_CELLS:
+    cells = {cell: width for cell, width in cells.items() if len(harts_of[cell]) > 1}
+    accesses = [(hart, words) for hart, words in accesses if words.split()[1] in cells]
+if len(cells) > MOST_CELLS:
+    sys.exit(f"to_script: {len(cells)} cells are accessed by several harts: choose {MOST_CELLS} of them")
 harts = max(hart for hart, _ in accesses) + 1
 print(f"log open sim {harts} 1000000", *(f"{cell}:{width}=0" for cell, width in sorted(cells.items())))
 for hart in range(harts):
