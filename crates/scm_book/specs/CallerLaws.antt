@@ -30,19 +30,16 @@ calls_by-append session (x ∷ xs) ys =
     ∙ ap (λ calls. calls ++ calls_by session ys) (sym (calls_by-cons session x xs (x.session == session) refl))
 
 -- an entry of the session itself adds its call and its reply
-pub calls_by-own : (session : ℕ) (journal : List EntryData) (call : CallData) (reply : ReplyData)
-    → calls_by session (entered journal session call reply) ≡ calls_by session journal ++ (call, reply) ∷ []
-calls_by-own session journal call reply = calls_by-append session journal _ ∙ ap (λ calls. calls_by session journal ++ calls) one
-  where
-    one : calls_by session (record { session = session; number = count_of session journal; call = call; reply = reply } ∷ []) ≡ (call, reply) ∷ []
-    one = let e : (session == session) ≡ true = eq-eqb session session refl in rw e
+pub calls_by-entry_own : (session : ℕ) (journal : List EntryData) (entry : EntryData) → entry.session ≡ session
+    → calls_by session (journal ++ entry ∷ []) ≡ calls_by session journal ++ (entry.call, entry.reply) ∷ []
+calls_by-entry_own session journal entry own =
+    calls_by-append session journal (entry ∷ [])
+    ∙ ap (λ calls. calls_by session journal ++ calls) (calls_by-cons session entry [] true (eq-eqb entry.session session own))
 
 -- an entry of another session adds nothing
-pub calls_by-other : (session other : ℕ) (journal : List EntryData) (call : CallData) (reply : ReplyData) → other ≢ session
-    → calls_by session (entered journal other call reply) ≡ calls_by session journal
-calls_by-other session other journal call reply apart = calls_by-append session journal _ ∙ ap (λ calls. calls_by session journal ++ calls) none ∙ append_nil
-  where
-    none : calls_by session (record { session = other; number = count_of other journal; call = call; reply = reply } ∷ []) ≡ []
-    none = let e : (other == session) ≡ false = ne_eqb other session apart in rw e
-    append_nil : calls_by session journal ++ [] ≡ calls_by session journal
-    append_nil = append-nil (calls_by session journal)
+pub calls_by-entry_other : (session : ℕ) (journal : List EntryData) (entry : EntryData) → entry.session ≢ session
+    → calls_by session (journal ++ entry ∷ []) ≡ calls_by session journal
+calls_by-entry_other session journal entry apart =
+    calls_by-append session journal (entry ∷ [])
+    ∙ ap (λ calls. calls_by session journal ++ calls) (calls_by-cons session entry [] false (ne_eqb entry.session session apart))
+    ∙ append-nil (calls_by session journal)

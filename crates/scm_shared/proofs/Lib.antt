@@ -1,2 +1,4 @@
-pub mod Lists
+pub mod Sums
+pub mod Prefixes
+pub mod Fitting
 pub mod Moves

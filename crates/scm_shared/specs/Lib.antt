@@ -1,3 +1,4 @@
 pub mod Passes
 pub mod Rule
 pub mod Steps
+pub mod Seats

@@ -1,10 +1,8 @@
 //! The book that threads share: one legal history, as each caller saw it.
 #![tactic(auto)]
 
-ghost use Rattle.std.specs.Prelude.{◌≡◌};
+mod hall;
+mod naming;
+mod word;
 
-fn one() -> u8
-    ensures { result ≡ 1 }
-{
-    1
-}
+pub use naming::{BookNaming, Made};
