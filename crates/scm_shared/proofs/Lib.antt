@@ -1,4 +1,5 @@
 pub mod Sums
 pub mod Prefixes
 pub mod Fitting
+pub mod Seating
 pub mod Moves
