@@ -1,18 +1,22 @@
 -- What each way out of a call is for a book.
-use Rattle.std.proofs.Common.{◌≡◌, ℕ, ◌+◌, ◌<◌, Bool, true, false, List, [], ◌∷◌, ◌++◌, length, map, refl, sym, ap, ◌∙◌, subst, inl, inr, arith}
+use Rattle.std.proofs.Common.{◌≡◌, ℕ, ◌+◌, ◌<◌, Bool, true, false, List, [], ◌∷◌, ◌++◌, length, map, Option, None, Some, IfSome, IsSomeAnd, MatchOption, refl, sym, ap, ◌∙◌, subst, inl, inr, arith}
 use Rattle.std.proofs.lemmas.List.{length-append, map-append}
 use Rattle.std.proofs.lemmas.Bool.{leb-false}
 use Rattle.scm_sequences.specs.declared.refusal.Refusal.TheVariants.{NoMemory, JournalFull}
 use Rattle.scm_sequences.specs.declared.limits.TheConstants.{MOST_ENTRIES}
-use Rattle.scm_book.specs.Calls.{CallData, ReplyData, EntryData, refused}
+use Rattle.scm_book.specs.Calls.{CallData, ReplyData, EntryData, refused, call_data, reply_data}
+use Rattle.scm_book.specs.declared.call.Call.{Call}
+use Rattle.scm_book.specs.declared.reply.Reply.{Reply}
 use Rattle.scm_book.specs.Machine.{Machine, empty_machine}
 use Rattle.scm_book.specs.Steps.{IsStep, IsStepOrNoMemory}
 use Rattle.scm_book.specs.Changes.{tells_of_change}
-use Rattle.scm_book.specs.Sets.{LeavesSets}
+use Rattle.scm_results.specs.declared.results.Results.{Results}
+use Rattle.scm_book.specs.Sets.{KeptTrace, machine_in, sets_in, LeavesSets}
 use Rattle.scm_book.specs.Runs.{Answered, IsRun}
-use Rattle.scm_book.specs.Journal.{BookState, IsUnchanged, IsLegalHistory, IsCall, is_full, makes_entry, entered, answered}
+use Rattle.scm_book.specs.Journal.{BookState, IsUnchanged, IsLegalHistory, AreOfEntry, IsCall, is_full, makes_entry, entered, answered}
 use Rattle.scm_book.proofs.Counting.{AreNumbered-entered}
 use Rattle.scm_book.proofs.Changing.{step-enters}
+use Rattle.scm_book.proofs.Leaving.{leaves_idle}
 
 -- ---- histories
 
@@ -71,6 +75,19 @@ call-no_memory old new session call before after room same counts left = record 
   makes_memory_entry (refused JournalFull) = true
   makes_memory_entry reply = false
 
+-- ---- refused before the machine was asked
+
+-- what contracts see of a book with these traces, entries and totals
+abbrev pub book_of : List (List ℕ × KeptTrace) → List EntryData → Results → BookState
+book_of traces entries results = record { journal = entries; machine = machine_in traces; sets = sets_in traces; results = results }
+
+module _ (traces : List (List ℕ × KeptTrace)) (entries : List EntryData) (results : Results) (session : ℕ) (call : CallData) (made : ℕ) where
+  pub unreached-full : is_full entries ≡ true → IsCall (book_of traces entries results) session call (refused JournalFull) (book_of traces entries results)
+  unreached-full full = call-full _ _ session call made made full (record { journal = refl; machine = refl }) refl refl (leaves_idle traces call JournalFull made)
+
+  pub unreached-no_memory : (others : List EntryData) → is_full entries ≡ false → others ≡ entries → IsCall (book_of traces entries results) session call (refused NoMemory) (book_of traces others results)
+  unreached-no_memory others room same = call-no_memory _ _ session call made made room (record { journal = same; machine = refl }) refl (leaves_idle traces call NoMemory made)
+
 -- the machine's reply makes no entry
 pub call-no_entry : (old new : BookState) (session : ℕ) (call : CallData) (reply : ReplyData) (before after : ℕ) → is_full old.journal ≡ false → IsStepOrNoMemory old.machine session call reply new.machine
     → makes_entry reply ≡ false → new.journal ≡ old.journal → new.results ≡ old.results → LeavesSets old.machine old.sets call reply before after new.sets → IsCall old session call reply new
@@ -96,6 +113,18 @@ call-entered old new session call reply before after room makes step last counts
 pub step-from_entry : (old new : Machine) (session : ℕ) (call : CallData) (reply : ReplyData) → IsStepOrNoMemory old session call reply new → makes_entry reply ≡ true → IsStep old session call reply new
 step-from_entry old new session call reply (inl step) some = step
 step-from_entry old new session call reply (inr memory) some = let no : false ≡ true = sym (ap makes_entry memory.0) ∙ some in cc
+
+-- the machine's reply makes no entry: memory was refused, and the machine is as it was
+pub machine-no_entry : (old new : Machine) (session : ℕ) (call : CallData) (reply : ReplyData) → IsStepOrNoMemory old session call reply new → makes_entry reply ≡ false → new ≡ old
+machine-no_entry old new session call reply (inl step) none = let no : true ≡ false = sym (step-enters old new session call reply step) ∙ none in cc
+machine-no_entry old new session call reply (inr memory) none = memory.1
+
+-- copies that were made beside an entry are equal to it
+pub copies-of_entry : (copy : Option Call) (made : Option (Call × Reply)) (reply : ReplyData) → IfSome copy (λ copied. IsSomeAnd made (λ k. (call_data k.0 ≡ call_data copied) × (reply_data k.1 ≡ reply)))
+    → makes_entry reply ≡ true → IfSome copy (λ copied. MatchOption made (makes_entry reply ≡ false) (λ k. AreOfEntry (call_data copied) reply (call_data k.0) (reply_data k.1)))
+copies-of_entry None made reply are makes = tt
+copies-of_entry (Some copied) (Some k) reply are makes = record { makes = makes; same_call = are.0; same_reply = are.1 }
+copies-of_entry (Some copied) None reply are makes = absurd are
 
 -- a reply that couldn't be copied tells of no change
 pub untold : (reply : ReplyData) (copied : Bool) → (tells_of_change reply ≡ true → copied ≡ true) → copied ≡ false → tells_of_change reply ≡ false

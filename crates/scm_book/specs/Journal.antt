@@ -64,6 +64,12 @@ makes_entry (refused JournalFull) = false
 makes_entry (refused NoMemory) = false
 makes_entry reply = true
 
+-- a call and a reply that are equal to those of an entry that was made
+pub record AreOfEntry (call : CallData) (reply : ReplyData) (kept_call : CallData) (kept_reply : ReplyData) : Type 0 where
+  pub makes : makes_entry reply ≡ true
+  pub same_call : kept_call ≡ call
+  pub same_reply : kept_reply ≡ reply
+
 -- a session's call with this reply leads from old to new. It is refused for a full journal exactly where the journal is
 -- full. A reply that makes an entry is that of the machine, and this call with its reply stands last in the journal; with
 -- any other journal and machine are as they were. What was found out before is kept, as far as the call allows it.

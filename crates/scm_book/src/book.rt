@@ -1,12 +1,12 @@
 //! The book of open traces.
-ghost use Rattle.std.specs.Prelude.{◌≡◌, ◌↔◌, [], false, map, None, Some, IsTrue, MatchResult};
+ghost use Rattle.std.specs.Prelude.{◌≡◌, ◌↔◌, [], false, map, None, Some, true, is_ok, IsTrue, IfOk, IfSome, IsSomeAnd, MatchOption, MatchResult};
 ghost use Rattle.scm_book.specs.Calls.{call_data, reply_data, entry_data, opens, claims, releases, reports, sets_mark, goes_back, raises, asks, asks_why, shows, lists, closes};
 ghost use Rattle.scm_book.specs.Machine.{empty_machine};
 ghost use Rattle.scm_book.specs.Sets.{HasRoom, HasRoomFor, HoldsFor, LeavesSets, SearchesSet};
 ghost use Rattle.scm_results.specs.Totals.{none_counted};
 ghost use Rattle.scm_book.specs.Workers.{IsTaking, IsDelivery};
 ghost use Rattle.scm_book.specs.Changes.{tells_of_change};
-ghost use Rattle.scm_book.specs.Journal.{count_of as count_in, IsCall, IsLegalBook};
+ghost use Rattle.scm_book.specs.Journal.{count_of as count_in, makes_entry, AreOfEntry, IsCall, IsLegalBook};
 
 use crate::journal::Journal;
 use crate::traces::Traces;
@@ -134,32 +134,59 @@ impl Book {
         ensures legal { IsLegalBook self.new }
     {
         let mut steps = self.traces.new_counter(&call);
-        self.make(session, call, &mut steps)
+        let (reply, _) = self.make(session, call, None, &mut steps);
+        reply
     }
 
-    /// Makes a call of a session, and counts the steps of a question.
-    fn make(&mut self, session: u16, call: Call, steps: &mut Steps) -> Reply
-        requires room { HasRoom self.old.machine (call_data call) steps.old }
-        ensures called { IsCall self.old session (call_data call) (reply_data result) self.new }
-        ensures kept { tells_of_change (reply_data result) ≡ false → self.new.machine ≡ self.old.machine }
-        ensures sets { LeavesSets self.old.machine self.old.sets (call_data call) (reply_data result) steps.old steps.new self.new.sets }
+    /// Makes a call of a session, and gives copies of call and reply too where they made an entry. The copies are made
+    /// before anything changes, but for what a question finds out; where there is no memory for them, the call is refused.
+    pub fn call_kept(&mut self, session: u16, call: Call) -> (Reply, Option<(Call, Reply)>)
+        ensures called { IsCall self.old session (call_data call) (reply_data result.0) self.new }
+        ensures kept { MatchOption result.1 (makes_entry (reply_data result.0) ≡ false) (λ k. AreOfEntry (call_data call) (reply_data result.0) (call_data k.0) (reply_data k.1)) }
+        ensures machine { tells_of_change (reply_data result.0) ≡ false → self.new.machine ≡ self.old.machine }
         ensures legal { IsLegalBook self.new }
     {
         if self.journal.is_full() {
-            return Reply::Refused(Refusal::JournalFull);
+            return (Reply::Refused(Refusal::JournalFull), None);
+        }
+        let Ok(copy) = call.copy() else {
+            return (Reply::Refused(Refusal::NoMemory), None);
+        };
+        let mut steps = self.traces.new_counter(&call);
+        self.make(session, call, Some(copy), &mut steps)
+    }
+
+    /// Makes a call of a session, and counts the steps of a question. A copy of the call that is handed in comes back with
+    /// one of the reply, where they made an entry.
+    fn make(
+        &mut self,
+        session: u16,
+        call: Call,
+        copy: Option<Call>,
+        steps: &mut Steps,
+    ) -> (Reply, Option<(Call, Reply)>)
+        requires room { HasRoom self.old.machine (call_data call) steps.old }
+        ensures called { IsCall self.old session (call_data call) (reply_data result.0) self.new }
+        ensures kept { IfSome copy (λ copied. MatchOption result.1 (makes_entry (reply_data result.0) ≡ false) (λ k. AreOfEntry (call_data copied) (reply_data result.0) (call_data k.0) (reply_data k.1))) }
+        ensures machine { tells_of_change (reply_data result.0) ≡ false → self.new.machine ≡ self.old.machine }
+        ensures sets { LeavesSets self.old.machine self.old.sets (call_data call) (reply_data result.0) steps.old steps.new self.new.sets }
+        ensures legal { IsLegalBook self.new }
+    {
+        if self.journal.is_full() {
+            return (Reply::Refused(Refusal::JournalFull), None);
         }
         if self.journal.make_room(session).is_err() {
-            return Reply::Refused(Refusal::NoMemory);
+            return (Reply::Refused(Refusal::NoMemory), None);
         }
         let reply = self.traces.call(session, &call, steps);
         if !reply.makes_entry() {
-            return reply;
+            return (reply, None);
         }
-        let Ok(kept) = reply.copy() else {
-            return Reply::Refused(Refusal::NoMemory);
+        let Ok((entered, kept)) = copies(&reply, copy) else {
+            return (Reply::Refused(Refusal::NoMemory), None);
         };
-        self.journal.enter(session, call, kept);
-        reply
+        self.journal.enter(session, call, entered);
+        (reply, kept)
     }
 
     /// Opens a trace, which the session owns. Refused `BadDeclaration` where the number of processes isn't 1 to
@@ -262,7 +289,8 @@ impl Book {
         ensures work { SearchesSet self.old.machine self.old.sets name mark (reply_data result) steps.old steps.new self.new.sets }
         ensures legal { IsLegalBook self.new }
     {
-        self.make(session, Call::Ask { name, mark }, steps)
+        let (reply, _) = self.make(session, Call::Ask { name, mark }, None, steps);
+        reply
     }
 
     /// The same, with a refutation in place of `Inconsistent`. Refused `NoSuchTrace`, `NoSuchMark`.
@@ -272,7 +300,8 @@ impl Book {
         ensures work { SearchesSet self.old.machine self.old.sets name mark (reply_data result) steps.old steps.new self.new.sets }
         ensures legal { IsLegalBook self.new }
     {
-        self.make(session, Call::Why { name, mark }, steps)
+        let (reply, _) = self.make(session, Call::Why { name, mark }, None, steps);
+        reply
     }
 
     /// The operations of a process, as they are stored. Refused `NoSuchTrace`, `NoSuchProcess`.
@@ -298,4 +327,17 @@ impl Book {
     {
         self.call(session, Call::CloseTrace { name })
     }
+}
+
+/// A copy of the reply for the journal, and another one beside the copy of the call where one is given.
+fn copies(reply: &Reply, call: Option<Call>) -> Result<(Reply, Option<(Call, Reply)>), NoMemory>
+    ensures entered { IfOk result (λ made. reply_data made.0 ≡ reply_data reply.now) }
+    ensures kept { IfOk result (λ made. IfSome call (λ copied. IsSomeAnd made.1 (λ k. (call_data k.0 ≡ call_data copied) × (reply_data k.1 ≡ reply_data reply.now)))) }
+    ensures light { tells_of_change (reply_data reply.now) ≡ true → is_ok result ≡ true }
+{
+    let entered = reply.copy()?;
+    let Some(call) = call else {
+        return Ok((entered, None));
+    };
+    Ok((entered, Some((call, reply.copy()?))))
 }

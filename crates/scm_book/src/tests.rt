@@ -146,7 +146,7 @@ fn calls_are_copied_and_made(rt: HostRuntime) -> Result<(), Fail> {
         access: load(&rt, b"x", 0),
     };
     assert!(rt; is_done(book.call(ANNA, report.copy()?)));
-    let verdict = book.call(
+    let (verdict, kept) = book.call_kept(
         ANNA,
         Call::Ask {
             name: t,
@@ -155,6 +155,7 @@ fn calls_are_copied_and_made(rt: HostRuntime) -> Result<(), Fail> {
         .copy()?,
     );
     assert!(rt; matches!(verdict.copy()?, Reply::Undecided));
+    assert!(rt; matches!(kept, Some((Call::Ask { .. }, Reply::Undecided))));
     Ok(())
 }
 

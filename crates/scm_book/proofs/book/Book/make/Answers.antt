@@ -6,7 +6,7 @@ use Rattle.scm_book.specs.Journal.{BookState, IsCall, IsLegalHistory, entered}
 use Rattle.scm_book.specs.Sets.{machine_in, sets_in, LeavesSets}
 use Rattle.scm_book.specs.Steps.{IsStep}
 use Rattle.scm_book.proofs.Changing.{machine-kept}
-use Rattle.scm_book.proofs.Calling.{IsLegalHistory-more, IsLegalHistory-same, call-full, call-no_memory, call-no_entry, call-entered, step-from_entry, untold}
+use Rattle.scm_book.proofs.Calling.{IsLegalHistory-more, IsLegalHistory-same, book_of, unreached-full, unreached-no_memory, call-no_memory, call-no_entry, call-entered, step-from_entry, untold, machine-no_entry, copies-of_entry}
 use Rattle.scm_book.proofs.Leaving.{leaves_idle, leaves_uncopied}
 use Rattle.scm_book.proofs.book.Book.make.Goals as goal
 
@@ -20,8 +20,7 @@ returns-then-is_full-clause-sets c =
 pub returns-then-is_full-clause-called : goal.returns-then-is_full-clause-called
 returns-then-is_full-clause-called c =
     subst (λ (b : BookState). IsCall b c.args.session (call_data c.args.call) (refused JournalFull) b) c.self.view_is
-    (call-full (record { journal = c.self.inside.journal.entries; machine = machine_in c.self.inside.traces; sets = sets_in c.self.inside.traces; results = c.self.inside.results }) _ c.args.session (call_data c.args.call) c.args.steps.now c.args.steps.now
-    (sym c.if-is_full.ensures) (record { journal = refl; machine = refl }) refl refl (leaves_idle c.self.inside.traces (call_data c.args.call) JournalFull c.args.steps.now))
+    (unreached-full c.self.inside.traces c.self.inside.journal.entries c.self.inside.results c.args.session (call_data c.args.call) c.args.steps.now (sym c.if-is_full.ensures))
 
 pub returns-then-is_err-clause-sets : goal.returns-then-is_err-clause-sets
 returns-then-is_err-clause-sets c =
@@ -30,9 +29,8 @@ returns-then-is_err-clause-sets c =
 
 pub returns-then-is_err-clause-called : goal.returns-then-is_err-clause-called
 returns-then-is_err-clause-called c =
-    subst (λ (b : BookState). IsCall b c.args.session (call_data c.args.call) (refused NoMemory) (record { journal = c.make_room.new.self.entries; machine = machine_in c.self.inside.traces; sets = sets_in c.self.inside.traces; results = c.self.inside.results })) c.self.view_is
-    (call-no_memory (record { journal = c.self.inside.journal.entries; machine = machine_in c.self.inside.traces; sets = sets_in c.self.inside.traces; results = c.self.inside.results }) _ c.args.session (call_data c.args.call) c.args.steps.now c.args.steps.now
-    (sym c.if-is_full.ensures) (record { journal = c.make_room.ensures.entries; machine = refl }) refl (leaves_idle c.self.inside.traces (call_data c.args.call) NoMemory c.args.steps.now))
+    subst (λ (b : BookState). IsCall b c.args.session (call_data c.args.call) (refused NoMemory) (book_of c.self.inside.traces c.make_room.new.self.entries c.self.inside.results)) c.self.view_is
+    (unreached-no_memory c.self.inside.traces c.self.inside.journal.entries c.self.inside.results c.args.session (call_data c.args.call) c.args.steps.now _ (sym c.if-is_full.ensures) c.make_room.ensures.entries)
 
 -- ---- answered
 
@@ -42,8 +40,20 @@ returns-then-not-makes_entry-clause-called c =
     (call-no_entry (record { journal = c.self.inside.journal.entries; machine = machine_in c.self.inside.traces; sets = sets_in c.self.inside.traces; results = c.self.inside.results }) _ c.args.session (call_data c.args.call) (reply_data c.call-reply.result) _ _
     (sym c.if-is_full.ensures) c.call-reply.ensures.step (sym c.if-not-makes_entry.ensures) c.make_room.ensures.entries refl c.call-reply.ensures.sets)
 
+none_entered : (c : goal.Joined-call-3) → machine_in c.call-reply.new.self ≡ machine_in c.self.inside.traces
+none_entered c = machine-no_entry _ _ c.args.session (call_data c.args.call) (reply_data c.call-reply.result) c.call-reply.ensures.step (sym c.if-not-makes_entry.ensures)
+
+pub invariant_of-self-then-not-makes_entry : goal.invariant_of-self-then-not-makes_entry
+invariant_of-self-then-not-makes_entry c = IsLegalHistory-same _ _ _ _ c.make_room.ensures.entries (none_entered c) c.self.invariant
+
+pub returns-then-not-makes_entry-clause-legal : goal.returns-then-not-makes_entry-clause-legal
+returns-then-not-makes_entry-clause-legal c = IsLegalHistory-same _ _ _ _ c.make_room.ensures.entries (none_entered c) c.self.invariant
+
+pub returns-then-not-makes_entry-clause-machine : goal.returns-then-not-makes_entry-clause-machine
+returns-then-not-makes_entry-clause-machine c = λ _. none_entered c ∙ ap (λ (b : BookState). b.machine) c.self.view_is
+
 still : (c : goal.Joined-call-4) → tells_of_change (reply_data c.call-reply.result) ≡ false
-still c = untold (reply_data c.call-reply.result) (is_ok c.copy.result) c.copy.ensures.light (ap is_ok c.in_default.is)
+still c = untold (reply_data c.call-reply.result) (is_ok c.copies.result) c.copies.ensures.light (ap is_ok c.in_default.is)
 
 kept : (c : goal.Joined-call-4) → machine_in c.call-reply.new.self ≡ machine_in c.self.inside.traces
 kept c = machine-kept _ _ c.args.session (call_data c.args.call) (reply_data c.call-reply.result) c.call-reply.ensures.step (still c)
@@ -67,13 +77,13 @@ returns-in_default-clause-called c =
 pub returns-in_default-clause-legal : goal.returns-in_default-clause-legal
 returns-in_default-clause-legal c = IsLegalHistory-same _ _ _ _ c.make_room.ensures.entries (kept c) c.self.invariant
 
-pub returns-in_default-clause-kept : goal.returns-in_default-clause-kept
-returns-in_default-clause-kept c = λ _. kept c ∙ ap (λ (b : BookState). b.machine) c.self.view_is
+pub returns-in_default-clause-machine : goal.returns-in_default-clause-machine
+returns-in_default-clause-machine c = λ _. kept c ∙ ap (λ (b : BookState). b.machine) c.self.view_is
 
 -- ---- entered
 
 entered_as : (c : goal.After-enter) → c.enter.new.self.entries ≡ entered c.self.inside.journal.entries c.args.session (call_data c.args.call) (reply_data c.call-reply.result)
-entered_as c = c.enter.ensures ∙ ap₂ (λ entries r. entered entries c.args.session (call_data c.args.call) r) c.make_room.ensures.entries c.in-Ok.ensures.copy
+entered_as c = c.enter.ensures ∙ ap₂ (λ entries r. entered entries c.args.session (call_data c.args.call) r) c.make_room.ensures.entries c.in-Ok.ensures.entered
 
 step : (c : goal.After-enter) → IsStep (machine_in c.self.inside.traces) c.args.session (call_data c.args.call) (reply_data c.call-reply.result) (machine_in c.call-reply.new.self)
 step c = step-from_entry (machine_in c.self.inside.traces) (machine_in c.call-reply.new.self) c.args.session (call_data c.args.call) (reply_data c.call-reply.result) c.call-reply.ensures.step (sym c.if-not-makes_entry.ensures)
@@ -89,8 +99,8 @@ invariant_of-self-2 c = entered_history c
 pub returns-clause-legal : goal.returns-clause-legal
 returns-clause-legal c = entered_history c
 
-pub returns-clause-kept : goal.returns-clause-kept
-returns-clause-kept c = λ told.
+pub returns-clause-machine : goal.returns-clause-machine
+returns-clause-machine c = λ told.
     machine-kept (machine_in c.self.inside.traces) (machine_in c.call-reply.new.self) c.args.session (call_data c.args.call) (reply_data c.call-reply.result) c.call-reply.ensures.step told
     ∙ ap (λ (b : BookState). b.machine) c.self.view_is
 
@@ -99,3 +109,6 @@ returns-clause-called c =
     subst (λ (b : BookState). IsCall b c.args.session (call_data c.args.call) (reply_data c.call-reply.result) (record { journal = c.enter.new.self.entries; machine = machine_in c.call-reply.new.self; sets = sets_in c.call-reply.new.self; results = c.self.inside.results })) c.self.view_is
     (call-entered (record { journal = c.self.inside.journal.entries; machine = machine_in c.self.inside.traces; sets = sets_in c.self.inside.traces; results = c.self.inside.results }) _ c.args.session (call_data c.args.call) (reply_data c.call-reply.result) _ _
     (sym c.if-is_full.ensures) (sym c.if-not-makes_entry.ensures) (step c) (entered_as c) refl c.call-reply.ensures.sets)
+
+pub returns-clause-kept : goal.returns-clause-kept
+returns-clause-kept c = copies-of_entry c.args.copy _ (reply_data c.call-reply.result) c.in-Ok.ensures.kept (sym c.if-not-makes_entry.ensures)
