@@ -2,3 +2,4 @@ pub mod Passes
 pub mod Rule
 pub mod Steps
 pub mod Seats
+pub mod Desks
