@@ -2,4 +2,5 @@ pub mod Sums
 pub mod Prefixes
 pub mod Fitting
 pub mod Seating
+pub mod Passing
 pub mod Moves
