@@ -8,3 +8,4 @@ pub mod Numbering
 pub mod Naming
 pub mod Cutting
 pub mod Running
+mod WithText

@@ -10,11 +10,12 @@ use std::io::Write;
 
 impl<W: Write> Port<W> {
     /// Puts a fixed value, with a space before it: the name of its cell, an equals sign and the value.
-    fn put_fixed_value(&mut self, cell: Name, value: u64)
+    fn put_fixed_value(&mut self, fixed: (Name, u64))
         ensures bytes { Sends (W.contents (inner_of self.old)) (has_failed self.old)
-            (W.contents (inner_of self.new)) (has_failed self.new) (fixed_text (cell, value)) }
+            (W.contents (inner_of self.new)) (has_failed self.new) (fixed_text fixed) }
         ensures reads { reads_of self.new ≡ reads_of self.old }
     {
+        let (cell, value) = fixed;
         self.put_spaced_name(cell);
         self.put(b"=");
         self.put_number(value);
@@ -26,8 +27,8 @@ impl<W: Write> Port<W> {
             (W.contents (inner_of self.new)) (has_failed self.new) (flat_map fixed_text fixed.now) }
         ensures reads { reads_of self.new ≡ reads_of self.old }
     {
-        for (cell, value) in fixed {
-            self.put_fixed_value(*cell, *value);
+        for value in fixed {
+            self.put_fixed_value(*value);
         }
     }
 

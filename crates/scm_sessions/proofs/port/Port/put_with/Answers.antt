@@ -1,0 +1,10 @@
+use Rattle.std.proofs.Common.{◌<◌, length, arith}
+use Rattle.std.proofs.lemmas.Bool.Decides.{nat_tests}
+use Rattle.scm_sessions.proofs.Sent.{Sends-trans, Sends-same}
+use Rattle.scm_sessions.proofs.WithText.{with_text-some}
+use Rattle.scm_sessions.proofs.port.Port.put_with.Goals as goal
+
+pub returns-then-not-is_empty-clause-bytes : goal.returns-then-not-is_empty-clause-bytes
+returns-then-not-is_empty-clause-bytes g c =
+    let some : 0 < length c.args.fixed.now = grind (arith, nat_tests, c.if-not-is_empty.ensures) in
+    Sends-same (Sends-trans c.put.ensures.bytes c.put_fixed_values.ensures.bytes) (with_text-some c.args.fixed.now some)
