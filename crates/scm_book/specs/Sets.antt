@@ -33,6 +33,10 @@ sets_in traces = map (λ t. (t.0, t.1.set)) traces
 abbrev pub set_named : List (List ℕ × Kept) → List ℕ → Option Kept
 set_named sets name = lookup (name_eq name) sets
 
+-- the trace of this name is there, and this holds of it and its set
+abbrev pub InKept : List (List ℕ × KeptTrace) → List ℕ → (TraceState → Kept → Type 0) → Type 0
+InKept traces name P = IsSomeAnd (lookup (name_eq name) traces) (λ k. P k.state k.set)
+
 -- where the trace of this name is there, its set is kept for it and has so many members
 abbrev pub HoldsFor : Machine → List (List ℕ × Kept) → List ℕ → Option ℕ → Type 0
 HoldsFor machine sets name held =
@@ -79,6 +83,12 @@ pub record Searches (state : TraceState) (reply : ReplyData) (before after : ℕ
   pub work : KeepsWork (record { sequences = state.sequences; lengths = lengths }) state.budget old.members before new.members after
   -- so after any verdict but undecided the same question again makes no step
   pub known : IsKnownBy reply state.sequences lengths new.members
+
+-- the same of a question with this mark, if it has one; where the mark isn't there nothing happens
+abbrev pub SearchesAt : TraceState → Option ℕ → ReplyData → ℕ → ℕ → Kept → Kept → Type 0
+SearchesAt state mark reply before after old new =
+    MatchResult (asked_lengths state mark) (λ lengths. Searches state reply before after lengths old new)
+    (λ refusal. (new ≡ old) × (after ≡ before))
 
 -- no set changed, and no step was made
 abbrev pub IsIdle : List (List ℕ × Kept) → ℕ → ℕ → List (List ℕ × Kept) → Type 0

@@ -1,12 +1,12 @@
 //! The book of open traces.
-ghost use Rattle.std.specs.Prelude.{◌≡◌, ◌↔◌, ◌+◌, ◌-◌, [], false, map, None, Some, true, is_ok, IsTrue, IfOk, IfSome, IsSomeAnd, MatchOption, MatchResult};
+ghost use Rattle.std.specs.Prelude.{◌≡◌, ◌↔◌, ◌+◌, ◌-◌, [], false, map, None, Some, true, is_ok, IsTrue, IfOk, IfSome, IsSomeAnd, MatchResult};
 ghost use Rattle.scm_book.specs.Calls.{call_data, reply_data, entry_data, opens, claims, releases, reports, sets_mark, goes_back, raises, asks, asks_why, shows, lists, closes};
 ghost use Rattle.scm_book.specs.Machine.{empty_machine};
 ghost use Rattle.scm_book.specs.Sets.{HasRoom, HasRoomFor, HoldsFor, LeavesSets, SearchesSet};
 ghost use Rattle.scm_results.specs.Totals.{capped, none_counted};
 ghost use Rattle.scm_book.specs.Workers.{IsTaking, IsDelivery};
 ghost use Rattle.scm_book.specs.Changes.{tells_of_change};
-ghost use Rattle.scm_book.specs.Journal.{count_of as count_in, makes_entry, AreOfEntry, IsCall, IsLegalBook};
+ghost use Rattle.scm_book.specs.Journal.{count_of as count_in, GivesCopies, IsCall, IsLegalBook};
 
 use crate::journal::Journal;
 use crate::traces::Traces;
@@ -152,7 +152,7 @@ impl Book {
     /// before anything changes, but for what a question finds out; where there is no memory for them, the call is refused.
     pub fn call_kept(&mut self, session: u16, call: Call) -> (Reply, Option<(Call, Reply)>)
         ensures called { IsCall self.old session (call_data call) (reply_data result.0) self.new }
-        ensures kept { MatchOption result.1 (makes_entry (reply_data result.0) ≡ false) (λ k. AreOfEntry (call_data call) (reply_data result.0) (call_data k.0) (reply_data k.1)) }
+        ensures kept { GivesCopies (call_data call) result.0 result.1 }
         ensures machine { tells_of_change (reply_data result.0) ≡ false → self.new.machine ≡ self.old.machine }
         ensures legal { IsLegalBook self.new }
     {
@@ -177,7 +177,7 @@ impl Book {
     ) -> (Reply, Option<(Call, Reply)>)
         requires room { HasRoom self.old.machine (call_data call) steps.old }
         ensures called { IsCall self.old session (call_data call) (reply_data result.0) self.new }
-        ensures kept { IfSome copy (λ copied. MatchOption result.1 (makes_entry (reply_data result.0) ≡ false) (λ k. AreOfEntry (call_data copied) (reply_data result.0) (call_data k.0) (reply_data k.1))) }
+        ensures kept { IfSome copy (λ copied. GivesCopies (call_data copied) result.0 result.1) }
         ensures machine { tells_of_change (reply_data result.0) ≡ false → self.new.machine ≡ self.old.machine }
         ensures sets { LeavesSets self.old.machine self.old.sets (call_data call) (reply_data result.0) steps.old steps.new self.new.sets }
         ensures counted { self.new.steps ≡ capped (self.old.steps + (steps.new - steps.old)) }
