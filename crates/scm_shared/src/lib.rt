@@ -1,6 +1,7 @@
 //! The book that threads share: one legal history, as each caller saw it.
 #![tactic(auto)]
 
+mod audit;
 mod desk;
 mod hall;
 mod naming;
@@ -9,6 +10,7 @@ mod shared_book;
 mod token;
 mod word;
 
+pub use audit::Audit;
 pub use naming::{BookNaming, Made};
 pub use pass::Pass;
 pub use shared_book::SharedBook;
