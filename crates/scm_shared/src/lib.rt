@@ -7,6 +7,8 @@ mod hall;
 mod naming;
 mod pass;
 mod shared_book;
+#[cfg(test)]
+mod tests;
 mod token;
 mod word;
 
