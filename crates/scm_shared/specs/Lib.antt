@@ -3,3 +3,4 @@ pub mod Rule
 pub mod Steps
 pub mod Seats
 pub mod Desks
+pub mod Audits

@@ -1,7 +1,8 @@
 //! What lies under the lock of a shared book.
-ghost use Rattle.std.specs.Prelude.{◌≡◌, ◌+◌, ◌<◌, [], true, MatchResult};
-ghost use Rattle.scm_sequences.specs.declared.refusal.Refusal.TheVariants.{JournalFull, NoMemory, TooManySessions};
+ghost use Rattle.std.specs.Prelude.{◌≡◌, ◌+◌, ◌<◌, ◌≤◌, [], true, IfErr, IfOk, IfSome, MatchResult, vec_len};
+ghost use Rattle.scm_sequences.specs.declared.refusal.Refusal.TheVariants.{JournalFull, NoMemory as WithoutMemory, TooManySessions};
 ghost use Rattle.scm_sequences.specs.declared.limits.TheConstants.{MOST_SESSIONS};
+ghost use Rattle.scm_results.specs.Tallies.{nothing_counted};
 ghost use Rattle.scm_book.specs.Calls.{call_data, reply_data, refused};
 ghost use Rattle.scm_book.specs.Journal.{makes_entry};
 ghost use Rattle.scm_shared.specs.Passes.{newcomer, Extended, SeenFull};
@@ -12,8 +13,9 @@ use crate::word::View;
 use crate::{BookNaming, Made, Pass};
 use atomic_table::Seat;
 use scm_book::{Book, Call, Entry, Reply};
-use scm_results::{Token, Totals};
-use scm_sequences::{MOST_ENTRIES, MOST_SESSIONS, Refusal};
+use scm_expand::{Outcome, Task};
+use scm_results::{Tally, Token, Totals};
+use scm_sequences::{MOST_ENTRIES, MOST_SESSIONS, NoMemory, Refusal};
 use std::alloc::Global;
 use std::marker::{Model, PhantomData};
 use std::sync::ledger;
@@ -101,7 +103,7 @@ impl<B: BookNaming> Desk<B> {
     pub(crate) fn call(&mut self, hall: &Hall<B>, pass: &mut Pass<B>, call: Call) -> Reply
         ensures made { makes_entry (reply_data result) ≡ true → Extended pass.old (call_data call) (reply_data result) pass.new }
         ensures full { reply_data result ≡ refused JournalFull → SeenFull pass.old pass.new }
-        ensures refused { reply_data result ≡ refused NoMemory → pass.new ≡ pass.old }
+        ensures refused { reply_data result ≡ refused WithoutMemory → pass.new ≡ pass.old }
     {
         if pass.kept.reserve(1).is_err() {
             return Reply::Refused(Refusal::NoMemory);
@@ -125,5 +127,33 @@ impl<B: BookNaming> Desk<B> {
             }
         }
         reply
+    }
+
+    /// Takes at most `n` tasks, and counts them.
+    pub(crate) fn take(&mut self, n: usize, tally: &mut Tally<B>) -> Result<Vec<Task>, NoMemory>
+        ensures most { IfOk result (λ tasks. vec_len tasks ≤ n) }
+        ensures taken { IfOk result (λ tasks. tally.new.taken ≤ tally.old.taken + vec_len tasks) }
+        ensures delivered { tally.new.delivered ≡ tally.old.delivered }
+        ensures refused { IfErr result (λ _. tally.new ≡ tally.old) }
+    {
+        let tasks = self.book.take(n)?;
+        self.totals.take(tasks.len(), tally);
+        Ok(tasks)
+    }
+
+    /// Delivers outcomes, and counts what became of them.
+    pub(crate) fn deliver(&mut self, outcomes: Vec<Outcome>, tally: &mut Tally<B>)
+        ensures { tally.new.taken ≡ tally.old.taken }
+    {
+        let _counted = self.totals.results();
+        let delivered = self.book.deliver(outcomes);
+        self.totals.add(&delivered, tally);
+    }
+
+    /// A new tally.
+    pub(crate) fn tally(&mut self) -> Option<Tally<B>>
+        ensures { IfSome result (λ tally. tally ≡ nothing_counted) }
+    {
+        self.totals.tally()
     }
 }
