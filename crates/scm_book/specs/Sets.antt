@@ -33,6 +33,10 @@ sets_in traces = map (λ t. (t.0, t.1.set)) traces
 abbrev pub set_named : List (List ℕ × Kept) → List ℕ → Option Kept
 set_named sets name = lookup (name_eq name) sets
 
+-- the trace of this name is there, and this holds of it and its set
+abbrev pub InKept : List (List ℕ × KeptTrace) → List ℕ → (TraceState → Kept → Type 0) → Type 0
+InKept traces name P = IsSomeAnd (lookup (name_eq name) traces) (λ k. P k.state k.set)
+
 -- where the trace of this name is there, its set is kept for it and has so many members
 abbrev pub HoldsFor : Machine → List (List ℕ × Kept) → List ℕ → Option ℕ → Type 0
 HoldsFor machine sets name held =
@@ -81,6 +85,12 @@ pub record Searches (state : TraceState) (reply : ReplyData) (before after : ℕ
   -- so what was found out is found again with no step
   pub known : IsKnownBy reply state.sequences lengths old.members before new.members after
 
+-- the same of a question with this mark, if it has one; where the mark isn't there nothing happens
+abbrev pub SearchesAt : TraceState → Option ℕ → ReplyData → ℕ → ℕ → Kept → Kept → Type 0
+SearchesAt state mark reply before after old new =
+    MatchResult (asked_lengths state mark) (λ lengths. Searches state reply before after lengths old new)
+    (λ refusal. (new ≡ old) × (after ≡ before))
+
 -- no set changed, and no step was made
 abbrev pub IsIdle : List (List ℕ × Kept) → ℕ → ℕ → List (List ℕ × Kept) → Type 0
 IsIdle old before after new = (new ≡ old) × (after ≡ before)
@@ -97,15 +107,20 @@ abbrev pub IfDone : ReplyData → Type 0 → Type 0 → Type 0
 IfDone done effect other = effect
 IfDone reply effect other = other
 
--- what a call with this reply leaves of the sets, while a counter of steps goes from before to after: a set is made with its
--- trace, cut by a return, searched in by a question, goes with its trace, and is left alone by all else
+-- what a call with this reply makes of the sets where it is no question: a set is made with its trace, cut by a return, goes
+-- with its trace, and is left alone by all else
+abbrev pub ChangesSets : Machine → List (List ℕ × Kept) → CallData → ReplyData → List (List ℕ × Kept) → Type 0
+ChangesSets machine old (opens name procs budget decls) reply new = IfDone reply (HasNewSet old name new) (new ≡ old)
+ChangesSets machine old (goes_back name m) reply new = IfDone reply (CutsSet machine old name m new) (new ≡ old)
+ChangesSets machine old (closes name) reply new = IfDone reply (new ≡ remove_entry (name_eq name) old) (new ≡ old)
+ChangesSets machine old call reply new = new ≡ old
+
+-- what a call with this reply leaves of the sets, while a counter of steps goes from before to after: a question searches
+-- in a set, and no other call makes a step
 abbrev pub LeavesSets : Machine → List (List ℕ × Kept) → CallData → ReplyData → ℕ → ℕ → List (List ℕ × Kept) → Type 0
-LeavesSets machine old (opens name procs budget decls) reply before after new = IfDone reply (HasNewSet old name new) (new ≡ old)
-LeavesSets machine old (goes_back name m) reply before after new = IfDone reply (CutsSet machine old name m new) (new ≡ old)
-LeavesSets machine old (closes name) reply before after new = IfDone reply (new ≡ remove_entry (name_eq name) old) (new ≡ old)
 LeavesSets machine old (asks name mark) reply before after new = SearchesSet machine old name mark reply before after new
 LeavesSets machine old (asks_why name mark) reply before after new = SearchesSet machine old name mark reply before after new
-LeavesSets machine old call reply before after new = new ≡ old
+LeavesSets machine old call reply before after new = ChangesSets machine old call reply new × (after ≡ before)
 
 -- the most steps that a question about the trace makes
 abbrev pub most_steps : TraceState → ℕ

@@ -1,12 +1,12 @@
 //! The book of open traces.
-ghost use Rattle.std.specs.Prelude.{◌≡◌, ◌↔◌, [], false, map, None, Some, true, is_ok, IsTrue, IfOk, IfSome, IsSomeAnd, MatchOption, MatchResult};
+ghost use Rattle.std.specs.Prelude.{◌≡◌, ◌↔◌, ◌+◌, ◌-◌, [], false, map, None, Some, true, is_ok, IsTrue, IfOk, IfSome, IsSomeAnd, MatchResult};
 ghost use Rattle.scm_book.specs.Calls.{call_data, reply_data, entry_data, opens, claims, releases, reports, sets_mark, goes_back, raises, asks, asks_why, shows, lists, closes};
 ghost use Rattle.scm_book.specs.Machine.{empty_machine};
 ghost use Rattle.scm_book.specs.Sets.{HasRoom, HasRoomFor, HoldsFor, LeavesSets, SearchesSet};
-ghost use Rattle.scm_results.specs.Totals.{none_counted};
+ghost use Rattle.scm_results.specs.Totals.{capped, none_counted};
 ghost use Rattle.scm_book.specs.Workers.{IsTaking, IsDelivery};
 ghost use Rattle.scm_book.specs.Changes.{tells_of_change};
-ghost use Rattle.scm_book.specs.Journal.{count_of as count_in, makes_entry, AreOfEntry, IsCall, IsLegalBook};
+ghost use Rattle.scm_book.specs.Journal.{count_of as count_in, GivesCopies, IsCall, IsLegalBook};
 
 use crate::journal::Journal;
 use crate::traces::Traces;
@@ -24,7 +24,7 @@ use std::marker::Model;
 ///
 /// Contracts see a record: `machine` is the machine that the book stands for, and `journal` its entries, a legal history
 /// that ends in this machine. Beside the machine stand `sets`, what questions and outcomes found out about each trace, and
-/// `results`, the totals of tasks and outcomes. A session is a number that the caller gives.
+/// `results`, the totals of tasks and outcomes, and `steps`, how many steps questions made. A session is a number that the caller gives.
 ///
 /// Each call answers `Refused(JournalFull)` where the journal is full, before all else; then what the machine answers, or
 /// `Refused(NoMemory)`. After these two refusals machine and journal are as they were, and after the first the sets too;
@@ -35,6 +35,7 @@ pub struct Book {
     traces: Traces,
     journal: Journal,
     results: Results,
+    steps: u64,
 }
 
 impl Model for Book {
@@ -43,7 +44,7 @@ impl Model for Book {
 
     ghost Value = { BookState };
 
-    ghost view = { λ b. record { journal = b.journal.entries; machine = machine_in b.traces; sets = sets_in b.traces; results = b.results } };
+    ghost view = { λ b. record { journal = b.journal.entries; machine = machine_in b.traces; sets = sets_in b.traces; results = b.results; steps = b.steps } };
 
     ghost invariant = { λ b. IsLegalHistory b.journal.entries (machine_in b.traces) };
 }
@@ -55,12 +56,14 @@ impl Book {
         ensures journal { result.journal ≡ [] }
         ensures sets { result.sets ≡ [] }
         ensures results { result.results ≡ none_counted }
+        ensures steps { result.steps ≡ 0 }
     {
         Book {
             alloc,
             traces: Traces::new(alloc),
             journal: Journal::new(alloc),
             results: Results::new(),
+            steps: 0,
         }
     }
 
@@ -92,6 +95,13 @@ impl Book {
         ensures { result ≡ self.now.results }
     {
         self.results
+    }
+
+    /// How many steps questions made in all, up to 2^64 - 1.
+    pub fn steps(&self) -> u64
+        ensures { result ≡ self.now.steps }
+    {
+        self.steps
     }
 
     /// Takes at most `n` tasks for workers, all of one trace: at least one where `n` isn't 0 and some trace has a next
@@ -127,7 +137,7 @@ impl Book {
     }
 
     /// Makes a call of a session. The machine is as it was after every reply but `Done` and `MarkSet`. The steps of a
-    /// question are counted in a counter of its own.
+    /// question are counted in the book's total.
     pub fn call(&mut self, session: u16, call: Call) -> Reply
         ensures called { IsCall self.old session (call_data call) (reply_data result) self.new }
         ensures kept { tells_of_change (reply_data result) ≡ false → self.new.machine ≡ self.old.machine }
@@ -142,7 +152,7 @@ impl Book {
     /// before anything changes, but for what a question finds out; where there is no memory for them, the call is refused.
     pub fn call_kept(&mut self, session: u16, call: Call) -> (Reply, Option<(Call, Reply)>)
         ensures called { IsCall self.old session (call_data call) (reply_data result.0) self.new }
-        ensures kept { MatchOption result.1 (makes_entry (reply_data result.0) ≡ false) (λ k. AreOfEntry (call_data call) (reply_data result.0) (call_data k.0) (reply_data k.1)) }
+        ensures kept { GivesCopies (call_data call) result.0 result.1 }
         ensures machine { tells_of_change (reply_data result.0) ≡ false → self.new.machine ≡ self.old.machine }
         ensures legal { IsLegalBook self.new }
     {
@@ -167,9 +177,10 @@ impl Book {
     ) -> (Reply, Option<(Call, Reply)>)
         requires room { HasRoom self.old.machine (call_data call) steps.old }
         ensures called { IsCall self.old session (call_data call) (reply_data result.0) self.new }
-        ensures kept { IfSome copy (λ copied. MatchOption result.1 (makes_entry (reply_data result.0) ≡ false) (λ k. AreOfEntry (call_data copied) (reply_data result.0) (call_data k.0) (reply_data k.1))) }
+        ensures kept { IfSome copy (λ copied. GivesCopies (call_data copied) result.0 result.1) }
         ensures machine { tells_of_change (reply_data result.0) ≡ false → self.new.machine ≡ self.old.machine }
         ensures sets { LeavesSets self.old.machine self.old.sets (call_data call) (reply_data result.0) steps.old steps.new self.new.sets }
+        ensures counted { self.new.steps ≡ capped (self.old.steps + (steps.new - steps.old)) }
         ensures legal { IsLegalBook self.new }
     {
         if self.journal.is_full() {
@@ -178,7 +189,9 @@ impl Book {
         if self.journal.make_room(session).is_err() {
             return (Reply::Refused(Refusal::NoMemory), None);
         }
+        let before = steps.made();
         let reply = self.traces.call(session, &call, steps);
+        self.steps = self.steps.saturating_add(steps.made() - before);
         if !reply.makes_entry() {
             return (reply, None);
         }
@@ -279,14 +292,15 @@ impl Book {
     }
 
     /// Whether the trace is sequentially consistent, as it is or as it stood at a mark. Refused `NoSuchTrace`,
-    /// `NoSuchMark`. The counter needs room, as `has_room` says. What was found out stays for the next questions, and isn't
-    /// paid for again: at most two steps more are made than pairs of a situation and a process are looked at for the first
-    /// time, and none where a situation with every operation is held or all was looked at, as it is once the same question
-    /// was answered.
+    /// `NoSuchMark`. The counter needs room, as `has_room` says; what it rises by is counted in the book's total too. What
+    /// was found out stays for the next questions, and isn't paid for again: at most two steps more are made than pairs of
+    /// a situation and a process are looked at for the first time, and none where a situation with every operation is held
+    /// or all was looked at, as it is once the same question was answered with anything but `Undecided`.
     pub fn ask(&mut self, session: u16, name: Name, mark: Option<u64>, steps: &mut Steps) -> Reply
         requires room { HasRoomFor self.old.machine name steps.old }
         ensures called { IsCall self.old session (asks name mark) (reply_data result) self.new }
         ensures work { SearchesSet self.old.machine self.old.sets name mark (reply_data result) steps.old steps.new self.new.sets }
+        ensures counted { self.new.steps ≡ capped (self.old.steps + (steps.new - steps.old)) }
         ensures legal { IsLegalBook self.new }
     {
         let (reply, _) = self.make(session, Call::Ask { name, mark }, None, steps);
@@ -298,6 +312,7 @@ impl Book {
         requires room { HasRoomFor self.old.machine name steps.old }
         ensures called { IsCall self.old session (asks_why name mark) (reply_data result) self.new }
         ensures work { SearchesSet self.old.machine self.old.sets name mark (reply_data result) steps.old steps.new self.new.sets }
+        ensures counted { self.new.steps ≡ capped (self.old.steps + (steps.new - steps.old)) }
         ensures legal { IsLegalBook self.new }
     {
         let (reply, _) = self.make(session, Call::Why { name, mark }, None, steps);

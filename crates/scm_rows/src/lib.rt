@@ -24,6 +24,8 @@ mod marks;
 #[cfg(test)]
 mod proposals;
 #[cfg(test)]
+mod real_size;
+#[cfg(test)]
 mod refusals;
 #[cfg(test)]
 mod refutations;

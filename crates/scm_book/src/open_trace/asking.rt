@@ -1,9 +1,9 @@
 //! Questions about an open trace.
-ghost use Rattle.std.specs.Prelude.{◌≡◌, ◌+◌, ◌<◌, ◌^◌, length, None, IfOk, IfErr, MatchResult};
+ghost use Rattle.std.specs.Prelude.{◌≡◌, ◌+◌, ◌<◌, ◌^◌, length, None, IfOk, IfErr};
 ghost use Rattle.scm_sequences.specs.Refusals.{Refuses};
 ghost use Rattle.scm_book.specs.Calls.{reply_data, answer_data};
 ghost use Rattle.scm_book.specs.Refusals.{question_cause};
-ghost use Rattle.scm_book.specs.Sets.{asked_lengths, most_steps, Searches};
+ghost use Rattle.scm_book.specs.Sets.{most_steps, SearchesAt};
 ghost use Rattle.scm_book.specs.Sound.{IsKeptFor};
 ghost use Rattle.scm_book.specs.Steps.{Asks, AsksWhy};
 
@@ -26,7 +26,7 @@ impl OpenTrace {
         ensures ok { IfOk result (λ reply. (question_cause self.old.state mark ≡ None) × Asks self.old.state mark (reply_data reply)) }
         ensures err { IfErr result (Refuses (question_cause self.old.state mark)) }
         ensures same { self.new.state ≡ self.old.state }
-        ensures set { MatchResult (asked_lengths self.old.state mark) (λ lengths. Searches self.old.state (answer_data result) steps.old steps.new lengths self.old.set self.new.set) (λ _. (self.new.set ≡ self.old.set) × (steps.new ≡ steps.old)) }
+        ensures set { SearchesAt self.old.state mark (answer_data result) steps.old steps.new self.old.set self.new.set }
     {
         let limit = self.budget.limit();
         let Some(mark) = mark else {
@@ -64,7 +64,7 @@ impl OpenTrace {
         ensures ok { IfOk result (λ reply. (question_cause self.old.state mark ≡ None) × AsksWhy self.old.state mark (reply_data reply)) }
         ensures err { IfErr result (Refuses (question_cause self.old.state mark)) }
         ensures same { self.new.state ≡ self.old.state }
-        ensures set { MatchResult (asked_lengths self.old.state mark) (λ lengths. Searches self.old.state (answer_data result) steps.old steps.new lengths self.old.set self.new.set) (λ _. (self.new.set ≡ self.old.set) × (steps.new ≡ steps.old)) }
+        ensures set { SearchesAt self.old.state mark (answer_data result) steps.old steps.new self.old.set self.new.set }
     {
         let limit = self.budget.limit();
         let Some(mark) = mark else {

@@ -1,8 +1,6 @@
 //! What workers take and deliver.
-ghost use Rattle.std.specs.Prelude.{◌≡◌, IsSomeAnd, MatchOption, MatchResult};
-ghost use Rattle.std.specs.Map.{lookup};
-ghost use Rattle.scm_cells.specs.Names.{name_eq};
-ghost use Rattle.scm_book.specs.Sets.{machine_in, sets_in};
+ghost use Rattle.std.specs.Prelude.{◌≡◌, MatchOption, MatchResult};
+ghost use Rattle.scm_book.specs.Sets.{machine_in, sets_in, InKept};
 ghost use Rattle.scm_book.specs.Workers.{Offers, OffersNew, OffersNothing, OffersNothingNew, ComesFirst, Takes, Meets, Delivers};
 
 use super::Traces;
@@ -31,7 +29,7 @@ impl Traces {
 
     /// The trace that tasks are taken of next.
     fn offering(&self) -> Option<Name>
-        ensures { MatchOption result (OffersNothing (machine_in self.now) (sets_in self.now)) (λ name. IsSomeAnd (lookup (name_eq name) self.now) (λ k. ComesFirst (machine_in self.now) (sets_in self.now) k.state k.set)) }
+        ensures { MatchOption result (OffersNothing (machine_in self.now) (sets_in self.now)) (λ name. InKept self.now name (ComesFirst (machine_in self.now) (sets_in self.now))) }
     {
         match self.first_new() {
             Some(name) => Some(name),
@@ -41,7 +39,7 @@ impl Traces {
 
     /// The first trace with operations to be looked at that weren't handed out, and room in its budget.
     fn first_new(&self) -> Option<Name>
-        ensures { MatchOption result (OffersNothingNew (machine_in self.now) (sets_in self.now)) (λ name. IsSomeAnd (lookup (name_eq name) self.now) (λ k. OffersNew k.state k.set)) }
+        ensures { MatchOption result (OffersNothingNew (machine_in self.now) (sets_in self.now)) (λ name. InKept self.now name OffersNew) }
     {
         for place in 0..self.traces.len() {
             let (name, _) = self.traces.get_index(place).unwrap();
@@ -58,7 +56,7 @@ impl Traces {
 
     /// The first trace with operations to be looked at, and room in its budget.
     fn first(&self) -> Option<Name>
-        ensures { MatchOption result (OffersNothing (machine_in self.now) (sets_in self.now)) (λ name. IsSomeAnd (lookup (name_eq name) self.now) (λ k. Offers k.state k.set)) }
+        ensures { MatchOption result (OffersNothing (machine_in self.now) (sets_in self.now)) (λ name. InKept self.now name Offers) }
     {
         for place in 0..self.traces.len() {
             let (name, _) = self.traces.get_index(place).unwrap();

@@ -1,0 +1,6 @@
+pub mod Passes
+pub mod Rule
+pub mod Steps
+pub mod Seats
+pub mod Desks
+pub mod Audits

@@ -1,0 +1,108 @@
+//! The end of a shared book: what its passes kept, against its journal.
+ghost use Rattle.std.specs.Prelude.{◌≡◌, ◌+◌, ◌==◌, ◌↔◌, true, All, IsTrue, length, sum_by, vec_len};
+ghost use Rattle.std.specs.List.{list_all, list_any};
+ghost use Rattle.scm_results.specs.Tallies.{AddUpTo};
+ghost use Rattle.scm_book.specs.Journal.{IsLegalBook};
+ghost use Rattle.scm_shared.specs.Rule.{Fits};
+ghost use Rattle.scm_shared.specs.Seats.{IsBooks};
+ghost use Rattle.scm_shared.specs.Audits.{covers, Agree};
+
+use crate::desk::Desk;
+use crate::hall::Hall;
+use crate::word::View;
+use crate::{BookNaming, Made, Pass};
+use atomic_table::Seat;
+use scm_book::{Book, Entry};
+use scm_results::Tally;
+use std::sync::ledger::Share;
+
+/// What an audit finds.
+#[derive(Drop)]
+pub struct Audit {
+    pub book: Book,
+    /// How many passes entered.
+    pub entered: u16,
+    /// How many tallies were given.
+    pub tallies: u32,
+    /// Whether each session with an entry has its pass among those handed in, and the calls that each of these kept are its
+    /// session's entries, in order.
+    pub agreed: bool,
+    /// Whether the tallies add up to what the book counted.
+    pub totals_agreed: bool,
+}
+
+/// Whether a pass of this number is among these.
+fn is_given<B: BookNaming>(passes: &Vec<Pass<B>>, number: u16) -> bool
+    ensures { result ≡ list_any (λ pass. pass.number == number) passes.now.items }
+{
+    passes.iter().any(|pass| pass.number() == number)
+}
+
+/// Whether each session with an entry has its pass among these.
+fn is_covered<B: BookNaming>(passes: &Vec<Pass<B>>, entries: &[Entry]) -> bool
+    ensures { result ≡ list_all (λ entry. list_any (λ pass. pass.number == entry.session) passes.now.items) entries.now }
+{
+    entries
+        .iter()
+        .all(|entry| is_given(passes, entry.session))
+}
+
+/// Takes a pass apart, which fits the journal.
+fn take_in<B: BookNaming>(
+    hall: &Hall<B>,
+    seat: &mut Seat<Entry, View>,
+    all: &mut Share<Made<B>>,
+    pass: Pass<B>,
+)
+    requires { (seat.old.table_id ≡ B.table) × IsBooks seat.old.me }
+    ensures seat { (seat.new.table_id ≡ B.table) × (seat.new.me ≡ seat.old.me) }
+    ensures fits { Fits seat.old.me.0.log pass }
+    ensures parts { all.new.parts ≡ all.old.parts + 1 }
+    ensures amount { all.new.amount ≡ all.old.amount + length pass.made }
+{
+    let Pass {
+        mut badge, share, ..
+    } = pass;
+    hall.catch_up(seat, &mut badge);
+    all.merge(share);
+}
+
+impl<B: BookNaming> Desk<B> {
+    /// Takes the desk apart, and compares the passes with the journal and the tallies with the totals. The calls of every pass
+    /// are its session's entries anyhow, as the rule of the counting word has it, so what is left to see is whose passes came.
+    pub(crate) fn audit(
+        self,
+        hall: &Hall<B>,
+        passes: Vec<Pass<B>>,
+        tallies: Vec<Tally<B>>,
+    ) -> Audit
+        ensures legal { IsLegalBook result.book }
+        ensures fits { All (λ pass. Fits result.book.journal pass) passes.items }
+        ensures made { vec_len passes ≡ result.entered → sum_by (λ pass. length pass.made) passes.items ≡ length result.book.journal }
+        ensures agreed { IsTrue result.agreed ↔ Agree passes.items result.book.journal }
+        ensures given { covers passes.items result.book.journal ≡ true → IsTrue result.agreed }
+        ensures totals_agreed { IsTrue result.totals_agreed ↔ AddUpTo result.book.results tallies.items }
+        ensures all_tallies { vec_len tallies ≡ result.tallies → IsTrue result.totals_agreed }
+    {
+        let Desk {
+            book,
+            entered,
+            mut seat,
+            totals,
+            mut made,
+            rest: mut all,
+        } = self;
+        let agreed = is_covered(&passes, book.entries());
+        for pass in passes {
+            take_in(hall, &mut seat, &mut all, pass);
+        }
+        made.audit(&mut all);
+        Audit {
+            book,
+            entered,
+            tallies: totals.given(),
+            agreed,
+            totals_agreed: totals.settle(tallies),
+        }
+    }
+}
