@@ -1,18 +1,23 @@
 -- What each way out of a call is for a book.
-use Rattle.std.proofs.Common.{◌≡◌, ℕ, ◌+◌, ◌<◌, Bool, true, false, List, [], ◌∷◌, ◌++◌, length, map, refl, sym, ap, ◌∙◌, subst, inl, inr, arith}
+use Rattle.std.proofs.Common.{◌≡◌, ℕ, ◌+◌, ◌<◌, ◌^◌, Bool, true, false, List, [], ◌∷◌, ◌++◌, length, map, Option, None, Some, IfSome, IsSomeAnd, MatchOption, refl, sym, ap, ◌∙◌, subst, inl, inr, arith}
 use Rattle.std.proofs.lemmas.List.{length-append, map-append}
 use Rattle.std.proofs.lemmas.Bool.{leb-false}
 use Rattle.scm_sequences.specs.declared.refusal.Refusal.TheVariants.{NoMemory, JournalFull}
 use Rattle.scm_sequences.specs.declared.limits.TheConstants.{MOST_ENTRIES}
-use Rattle.scm_book.specs.Calls.{CallData, ReplyData, EntryData, refused}
+use Rattle.scm_book.specs.Calls.{CallData, ReplyData, EntryData, refused, call_data, reply_data}
+use Rattle.scm_book.specs.declared.call.Call.{Call}
+use Rattle.scm_book.specs.declared.reply.Reply.{Reply}
 use Rattle.scm_book.specs.Machine.{Machine, empty_machine}
 use Rattle.scm_book.specs.Steps.{IsStep, IsStepOrNoMemory}
 use Rattle.scm_book.specs.Changes.{tells_of_change}
-use Rattle.scm_book.specs.Sets.{LeavesSets}
+use Rattle.scm_results.specs.declared.results.Results.{Results}
+use Rattle.scm_results.specs.Totals.{capped}
+use Rattle.scm_book.specs.Sets.{KeptTrace, machine_in, sets_in, LeavesSets}
 use Rattle.scm_book.specs.Runs.{Answered, IsRun}
-use Rattle.scm_book.specs.Journal.{BookState, IsUnchanged, IsLegalHistory, IsCall, is_full, makes_entry, entered, answered}
+use Rattle.scm_book.specs.Journal.{BookState, IsUnchanged, IsLegalHistory, AreOfEntry, IsCall, is_full, makes_entry, entered, answered}
 use Rattle.scm_book.proofs.Counting.{AreNumbered-entered}
 use Rattle.scm_book.proofs.Changing.{step-enters}
+use Rattle.scm_book.proofs.Leaving.{leaves_idle}
 
 -- ---- histories
 
@@ -41,61 +46,95 @@ IsLegalHistory-same journal others old new same_journal same_machine legal =
 
 -- ---- ways out of a call
 
--- the journal is full
-pub call-full : (old new : BookState) (session : ℕ) (call : CallData) (before after : ℕ) → is_full old.journal ≡ true → IsUnchanged old new → new.sets ≡ old.sets → new.results ≡ old.results
-    → LeavesSets old.machine old.sets call (refused JournalFull) before after new.sets → IsCall old session call (refused JournalFull) new
-call-full old new session call before after full same same_sets counts left = record {
-  full = ((λ is. full), (λ is. refl));
-  step = λ entered. let no : false ≡ true = entered in cc;
-  entry = λ entered. let no : false ≡ true = entered in cc;
-  unchanged = λ _. same;
-  results = counts;
-  idle = λ _. same_sets;
-  work = (before, after, left);
-}
+-- a total that nothing is added to
+pub capped-same : (n : ℕ) → n < 2 ^ 64 → n ≡ capped (n + 0)
+capped-same n fits = omega (arith, fits)
 
--- memory was refused
-pub call-no_memory : (old new : BookState) (session : ℕ) (call : CallData) (before after : ℕ) → is_full old.journal ≡ false → IsUnchanged old new → new.results ≡ old.results → LeavesSets old.machine old.sets call (refused NoMemory) before after new.sets
-    → IsCall old session call (refused NoMemory) new
-call-no_memory old new session call before after room same counts left = record {
-  full = ((λ is. let no : false ≡ true = ap makes_memory_entry is in cc), (λ is. let no : false ≡ true = sym room ∙ is in cc));
-  step = λ entered. let no : false ≡ true = entered in cc;
-  entry = λ entered. let no : false ≡ true = entered in cc;
-  unchanged = λ _. same;
-  results = counts;
-  idle = λ is. let no : false ≡ true = ap makes_memory_entry is in cc;
-  work = (before, after, left);
-} where
-  -- tells the two refusals apart
-  makes_memory_entry : ReplyData → Bool
-  makes_memory_entry (refused JournalFull) = true
-  makes_memory_entry reply = false
+module _ (old new : BookState) (session : ℕ) (call : CallData) (made : ℕ) (counted : new.steps ≡ capped (old.steps + made)) where
+  -- the journal is full
+  pub call-full : is_full old.journal ≡ true → IsUnchanged old new → new.sets ≡ old.sets → new.results ≡ old.results → LeavesSets old.machine old.sets call (refused JournalFull) 0 made new.sets
+      → IsCall old session call (refused JournalFull) new
+  call-full full same same_sets counts left = record {
+    full = ((λ is. full), (λ is. refl));
+    step = λ entered. let no : false ≡ true = entered in cc;
+    entry = λ entered. let no : false ≡ true = entered in cc;
+    unchanged = λ _. same;
+    results = counts;
+    idle = λ _. same_sets;
+    made = made;
+    work = left;
+    counted = counted;
+  }
 
--- the machine's reply makes no entry
-pub call-no_entry : (old new : BookState) (session : ℕ) (call : CallData) (reply : ReplyData) (before after : ℕ) → is_full old.journal ≡ false → IsStepOrNoMemory old.machine session call reply new.machine
-    → makes_entry reply ≡ false → new.journal ≡ old.journal → new.results ≡ old.results → LeavesSets old.machine old.sets call reply before after new.sets → IsCall old session call reply new
-call-no_entry old new session call reply before after room (inl step) none same counts left = let no : true ≡ false = sym (step-enters old.machine new.machine session call reply step) ∙ none in cc
-call-no_entry old new session call reply before after room (inr memory) none same counts left =
-    subst (λ r. IsCall old session call r new) (sym memory.0)
-    (call-no_memory old new session call before after room (record { journal = same; machine = memory.1 }) counts (subst (λ r. LeavesSets old.machine old.sets call r before after new.sets) memory.0 left))
+  -- memory was refused
+  pub call-no_memory : is_full old.journal ≡ false → IsUnchanged old new → new.results ≡ old.results → LeavesSets old.machine old.sets call (refused NoMemory) 0 made new.sets → IsCall old session call (refused NoMemory) new
+  call-no_memory room same counts left = record {
+    full = ((λ is. let no : false ≡ true = ap makes_memory_entry is in cc), (λ is. let no : false ≡ true = sym room ∙ is in cc));
+    step = λ entered. let no : false ≡ true = entered in cc;
+    entry = λ entered. let no : false ≡ true = entered in cc;
+    unchanged = λ _. same;
+    results = counts;
+    idle = λ is. let no : false ≡ true = ap makes_memory_entry is in cc;
+    made = made;
+    work = left;
+    counted = counted;
+  } where
+    -- tells the two refusals apart
+    makes_memory_entry : ReplyData → Bool
+    makes_memory_entry (refused JournalFull) = true
+    makes_memory_entry reply = false
 
--- the machine's reply makes an entry, which stands last
-pub call-entered : (old new : BookState) (session : ℕ) (call : CallData) (reply : ReplyData) (before after : ℕ) → is_full old.journal ≡ false → makes_entry reply ≡ true → IsStep old.machine session call reply new.machine
-    → new.journal ≡ entered old.journal session call reply → new.results ≡ old.results → LeavesSets old.machine old.sets call reply before after new.sets → IsCall old session call reply new
-call-entered old new session call reply before after room makes step last counts left = record {
-  full = ((λ is. let no : false ≡ true = ap makes_entry (sym is) ∙ makes in cc), (λ is. let no : false ≡ true = sym room ∙ is in cc));
-  step = λ _. step;
-  entry = λ _. last;
-  unchanged = λ none. let no : true ≡ false = sym makes ∙ none in cc;
-  results = counts;
-  idle = λ is. let no : false ≡ true = ap makes_entry (sym is) ∙ makes in cc;
-  work = (before, after, left);
-}
+  module _ (reply : ReplyData) (room : is_full old.journal ≡ false) (counts : new.results ≡ old.results) (left : LeavesSets old.machine old.sets call reply 0 made new.sets) where
+    -- the machine's reply makes no entry
+    pub call-no_entry : IsStepOrNoMemory old.machine session call reply new.machine → makes_entry reply ≡ false → new.journal ≡ old.journal → IsCall old session call reply new
+    call-no_entry (inl step) none same = let no : true ≡ false = sym (step-enters old.machine new.machine session call reply step) ∙ none in cc
+    call-no_entry (inr memory) none same =
+        subst (λ r. IsCall old session call r new) (sym memory.0)
+        (call-no_memory room (record { journal = same; machine = memory.1 }) counts (subst (λ r. LeavesSets old.machine old.sets call r 0 made new.sets) memory.0 left))
+
+    -- the machine's reply makes an entry, which stands last
+    pub call-entered : makes_entry reply ≡ true → IsStep old.machine session call reply new.machine → new.journal ≡ entered old.journal session call reply → IsCall old session call reply new
+    call-entered makes step last = record {
+      full = ((λ is. let no : false ≡ true = ap makes_entry (sym is) ∙ makes in cc), (λ is. let no : false ≡ true = sym room ∙ is in cc));
+      step = λ _. step;
+      entry = λ _. last;
+      unchanged = λ none. let no : true ≡ false = sym makes ∙ none in cc;
+      results = counts;
+      idle = λ is. let no : false ≡ true = ap makes_entry (sym is) ∙ makes in cc;
+      made = made;
+      work = left;
+      counted = counted;
+    }
 
 -- the machine's reply makes an entry: it is that of a step
 pub step-from_entry : (old new : Machine) (session : ℕ) (call : CallData) (reply : ReplyData) → IsStepOrNoMemory old session call reply new → makes_entry reply ≡ true → IsStep old session call reply new
 step-from_entry old new session call reply (inl step) some = step
 step-from_entry old new session call reply (inr memory) some = let no : false ≡ true = sym (ap makes_entry memory.0) ∙ some in cc
+
+-- ---- refused before the machine was asked
+
+-- what contracts see of a book with these traces, entries and totals
+abbrev pub book_of : List (List ℕ × KeptTrace) → List EntryData → Results → ℕ → BookState
+book_of traces entries results steps = record { journal = entries; machine = machine_in traces; sets = sets_in traces; results = results; steps = steps }
+
+module _ (traces : List (List ℕ × KeptTrace)) (entries : List EntryData) (results : Results) (steps : ℕ) (fits : steps < 2 ^ 64) (session : ℕ) (call : CallData) where
+  pub unreached-full : is_full entries ≡ true → IsCall (book_of traces entries results steps) session call (refused JournalFull) (book_of traces entries results steps)
+  unreached-full full = call-full _ _ session call 0 (capped-same steps fits) full (record { journal = refl; machine = refl }) refl refl (leaves_idle traces call JournalFull 0)
+
+  pub unreached-no_memory : (others : List EntryData) → is_full entries ≡ false → others ≡ entries → IsCall (book_of traces entries results steps) session call (refused NoMemory) (book_of traces others results steps)
+  unreached-no_memory others room same = call-no_memory _ _ session call 0 (capped-same steps fits) room (record { journal = same; machine = refl }) refl (leaves_idle traces call NoMemory 0)
+
+-- the machine's reply makes no entry: memory was refused, and the machine is as it was
+pub machine-no_entry : (old new : Machine) (session : ℕ) (call : CallData) (reply : ReplyData) → IsStepOrNoMemory old session call reply new → makes_entry reply ≡ false → new ≡ old
+machine-no_entry old new session call reply (inl step) none = let no : true ≡ false = sym (step-enters old new session call reply step) ∙ none in cc
+machine-no_entry old new session call reply (inr memory) none = memory.1
+
+-- copies that were made beside an entry are equal to it
+pub copies-of_entry : (copy : Option Call) (made : Option (Call × Reply)) (reply : ReplyData) → IfSome copy (λ copied. IsSomeAnd made (λ k. (call_data k.0 ≡ call_data copied) × (reply_data k.1 ≡ reply)))
+    → makes_entry reply ≡ true → IfSome copy (λ copied. MatchOption made (makes_entry reply ≡ false) (λ k. AreOfEntry (call_data copied) reply (call_data k.0) (reply_data k.1)))
+copies-of_entry None made reply are makes = tt
+copies-of_entry (Some copied) (Some k) reply are makes = record { makes = makes; same_call = are.0; same_reply = are.1 }
+copies-of_entry (Some copied) None reply are makes = absurd are
 
 -- a reply that couldn't be copied tells of no change
 pub untold : (reply : ReplyData) (copied : Bool) → (tells_of_change reply ≡ true → copied ≡ true) → copied ≡ false → tells_of_change reply ≡ false

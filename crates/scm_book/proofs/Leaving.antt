@@ -1,6 +1,6 @@
 -- What each way out of a call leaves of the sets.
 use Rattle.std.proofs.lemmas.Bool.{leb-true, le-leb}
-use Rattle.std.proofs.Common.{◌≡◌, ◌+◌, ◌-◌, ◌<◌, ◌^◌, nat_le, arith, IfSome, IsTrue, ℕ, true, false, List, length, Option, None, Some, Result, Ok, Err, IsOkAnd, IsSomeAnd, MatchOption, MatchResult, refl, sym, ap, ◌∙◌, subst}
+use Rattle.std.proofs.Common.{◌≡◌, ◌+◌, ◌-◌, ◌<◌, ◌≤◌, ◌^◌, nat_le, arith, IfSome, IsTrue, ℕ, true, false, List, length, Option, None, Some, Result, Ok, Err, IsOkAnd, IsSomeAnd, MatchOption, MatchResult, refl, sym, ap, ◌∙◌, subst}
 use Rattle.std.specs.Map.{lookup, set_value}
 use Rattle.std.proofs.lemmas.Map.Steps.{set_value_same}
 use Rattle.scm_sequences.specs.declared.refusal.Refusal.{Refusal}
@@ -9,7 +9,7 @@ use Rattle.scm_cells.specs.Names.{name_eq}
 use Rattle.scm_marks.specs.MarkLists.{mark_at}
 use Rattle.scm_reach.specs.Kept.{Kept}
 use Rattle.scm_reach.specs.Cutting.{cut_members}
-use Rattle.scm_reach.specs.WorkLaws.{KeepsWork-idle}
+use Rattle.scm_reach.specs.WorkLaws.{KeepsWork-idle, KeepsWork-counted}
 use Rattle.scm_book.specs.Calls.{CallData, opens, claims, releases, reports, sets_mark, goes_back, raises, asks, asks_why, shows, lists, closes, ReplyData, done, marked, consistent, inconsistent, undecided, because, ops, listed, refused}
 use Rattle.scm_book.specs.Changes.{tells_of_change}
 use Rattle.scm_book.specs.Machine.{Machine, TraceState, trace_named}
@@ -67,18 +67,18 @@ searches_idle traces name mark cause made = by (lookup (name_eq name) traces) re
 
 -- a call that was refused before it was reached
 pub leaves_idle : (traces : List (List ℕ × KeptTrace)) (call : CallData) (refusal : Refusal) (made : ℕ) → LeavesSets (machine_in traces) (sets_in traces) call (refused refusal) made made (sets_in traces)
-leaves_idle traces (opens name procs budget decls) refusal made = refl
-leaves_idle traces (claims name p) refusal made = refl
-leaves_idle traces (releases name p) refusal made = refl
-leaves_idle traces (reports name p access) refusal made = refl
-leaves_idle traces (sets_mark name) refusal made = refl
-leaves_idle traces (goes_back name m) refusal made = refl
-leaves_idle traces (raises name n) refusal made = refl
+leaves_idle traces (opens name procs budget decls) refusal made = (refl, refl)
+leaves_idle traces (claims name p) refusal made = (refl, refl)
+leaves_idle traces (releases name p) refusal made = (refl, refl)
+leaves_idle traces (reports name p access) refusal made = (refl, refl)
+leaves_idle traces (sets_mark name) refusal made = (refl, refl)
+leaves_idle traces (goes_back name m) refusal made = (refl, refl)
+leaves_idle traces (raises name n) refusal made = (refl, refl)
 leaves_idle traces (asks name mark) refusal made = searches_idle traces name mark refusal made
 leaves_idle traces (asks_why name mark) refusal made = searches_idle traces name mark refusal made
-leaves_idle traces (shows name p) refusal made = refl
-leaves_idle traces lists refusal made = refl
-leaves_idle traces (closes name) refusal made = refl
+leaves_idle traces (shows name p) refusal made = (refl, refl)
+leaves_idle traces lists refusal made = (refl, refl)
+leaves_idle traces (closes name) refusal made = (refl, refl)
 
 -- ---- a reply that couldn't be copied
 
@@ -112,18 +112,55 @@ searches_uncopied machine old new name mark reply before after = by (trace_named
 
 pub leaves_uncopied : (machine : Machine) (old new : List (List ℕ × Kept)) (call : CallData) (reply : ReplyData) (before after : ℕ) → tells_of_change reply ≡ false → LeavesSets machine old call reply before after new
     → LeavesSets machine old call (refused NoMemory) before after new
-leaves_uncopied machine old new (opens name procs budget decls) reply before after still left = still_other reply _ _ still left
+leaves_uncopied machine old new (opens name procs budget decls) reply before after still left = (still_other reply _ _ still left.0, left.1)
 leaves_uncopied machine old new (claims name p) reply before after still left = left
 leaves_uncopied machine old new (releases name p) reply before after still left = left
 leaves_uncopied machine old new (reports name p access) reply before after still left = left
 leaves_uncopied machine old new (sets_mark name) reply before after still left = left
-leaves_uncopied machine old new (goes_back name m) reply before after still left = still_other reply _ _ still left
+leaves_uncopied machine old new (goes_back name m) reply before after still left = (still_other reply _ _ still left.0, left.1)
 leaves_uncopied machine old new (raises name n) reply before after still left = left
 leaves_uncopied machine old new (asks name mark) reply before after still left = searches_uncopied machine old new name mark reply before after left
 leaves_uncopied machine old new (asks_why name mark) reply before after still left = searches_uncopied machine old new name mark reply before after left
 leaves_uncopied machine old new (shows name p) reply before after still left = left
 leaves_uncopied machine old new lists reply before after still left = left
-leaves_uncopied machine old new (closes name) reply before after still left = still_other reply _ _ still left
+leaves_uncopied machine old new (closes name) reply before after still left = (still_other reply _ _ still left.0, left.1)
+
+-- ---- steps from 0 on
+
+counted_idle : (old new : List (List ℕ × Kept)) (before after : ℕ) → IsIdle old before after new → (before ≤ after) × IsIdle old 0 (after - before) new
+counted_idle old new before after idle = (omega (arith, idle.1), (idle.0, omega (arith, idle.1)))
+
+searches_counted : (machine : Machine) (old new : List (List ℕ × Kept)) (name : List ℕ) (mark : Option ℕ) (reply : ReplyData) (before after : ℕ) → SearchesSet machine old name mark reply before after new
+    → (before ≤ after) × SearchesSet machine old name mark reply 0 (after - before) new
+searches_counted machine old new name mark reply before after = by (trace_named machine name) where
+  counted_of : (state : TraceState) (lengths : List ℕ) → Becomes old name (Searches state reply before after lengths) new → (before ≤ after) × Becomes old name (Searches state reply 0 (after - before) lengths) new
+  counted_of state lengths b = (b.leads.work.rises, record { before = b.before; after = b.after; found = b.found; leads = record { initials = b.leads.initials; work = KeepsWork-counted _ _ _ before _ after b.leads.work; known = b.leads.known }; written = b.written })
+
+  at : (state : TraceState) (r : Result (List ℕ) Refusal) → MatchResult r (λ lengths. Becomes old name (Searches state reply before after lengths) new) (λ refusal. IsIdle old before after new)
+      → (before ≤ after) × MatchResult r (λ lengths. Becomes old name (Searches state reply 0 (after - before) lengths) new) (λ refusal. IsIdle old 0 (after - before) new)
+  at state (Ok lengths) b = counted_of state lengths b
+  at state (Err refusal) same = counted_idle old new before after same
+
+  by : (o : Option TraceState) → MatchOption o (IsIdle old before after new) (λ state. MatchResult (asked_lengths state mark) (λ lengths. Becomes old name (Searches state reply before after lengths) new) (λ refusal. IsIdle old before after new))
+      → (before ≤ after) × MatchOption o (IsIdle old 0 (after - before) new) (λ state. MatchResult (asked_lengths state mark) (λ lengths. Becomes old name (Searches state reply 0 (after - before) lengths) new) (λ refusal. IsIdle old 0 (after - before) new))
+  by None same = counted_idle old new before after same
+  by (Some state) b = at state (asked_lengths state mark) b
+
+-- the counter doesn't fall, and what it rose by is what the call made
+pub leaves_counted : (machine : Machine) (old new : List (List ℕ × Kept)) (call : CallData) (reply : ReplyData) (before after : ℕ) → LeavesSets machine old call reply before after new
+    → (before ≤ after) × LeavesSets machine old call reply 0 (after - before) new
+leaves_counted machine old new (opens name procs budget decls) reply before after left = (omega (arith, left.1), (left.0, omega (arith, left.1)))
+leaves_counted machine old new (claims name p) reply before after left = (omega (arith, left.1), (left.0, omega (arith, left.1)))
+leaves_counted machine old new (releases name p) reply before after left = (omega (arith, left.1), (left.0, omega (arith, left.1)))
+leaves_counted machine old new (reports name p access) reply before after left = (omega (arith, left.1), (left.0, omega (arith, left.1)))
+leaves_counted machine old new (sets_mark name) reply before after left = (omega (arith, left.1), (left.0, omega (arith, left.1)))
+leaves_counted machine old new (goes_back name m) reply before after left = (omega (arith, left.1), (left.0, omega (arith, left.1)))
+leaves_counted machine old new (raises name n) reply before after left = (omega (arith, left.1), (left.0, omega (arith, left.1)))
+leaves_counted machine old new (asks name mark) reply before after left = searches_counted machine old new name mark reply before after left
+leaves_counted machine old new (asks_why name mark) reply before after left = searches_counted machine old new name mark reply before after left
+leaves_counted machine old new (shows name p) reply before after left = (omega (arith, left.1), (left.0, omega (arith, left.1)))
+leaves_counted machine old new lists reply before after left = (omega (arith, left.1), (left.0, omega (arith, left.1)))
+leaves_counted machine old new (closes name) reply before after left = (omega (arith, left.1), (left.0, omega (arith, left.1)))
 
 -- ---- looking a trace up
 

@@ -1,9 +1,10 @@
 -- The journal: each call and its reply, but for those refused for want of memory or since the journal was full. It is a
 -- legal history: a run of the machine from the empty one.
-use Rattle.std.specs.Prelude.{ℕ, ◌≡◌, ◌≤◌, ◌↔◌, ⊤, List, [], ◌∷◌, ◌++◌, length, map, Bool, true, false, nat_le, ◌==◌, count_by}
+use Rattle.std.specs.Prelude.{ℕ, ◌≡◌, ◌+◌, ◌≤◌, ◌↔◌, ⊤, List, [], ◌∷◌, ◌++◌, length, map, Bool, true, false, nat_le, ◌==◌, count_by}
 use Rattle.scm_sequences.specs.declared.refusal.Refusal.TheVariants.{JournalFull, NoMemory}
 use Rattle.scm_sequences.specs.declared.limits.TheConstants.{MOST_ENTRIES}
 use Rattle.scm_results.specs.declared.results.Results.{Results}
+use Rattle.scm_results.specs.Totals.{capped}
 use Rattle.scm_reach.specs.Kept.{Kept}
 use Rattle.scm_book.specs.Calls.{CallData, ReplyData, refused, EntryData}
 use Rattle.scm_book.specs.Machine.{Machine, empty_machine}
@@ -20,6 +21,8 @@ pub record BookState : Type 0 where
   pub sets : List (List ℕ × Kept)
   -- how many tasks were taken, and what became of the outcomes that were delivered
   pub results : Results
+  -- how many steps questions made in all, up to 2^64 - 1
+  pub steps : ℕ
 
 -- how many entries are of this session
 abbrev pub count_of : ℕ → List EntryData → ℕ
@@ -64,9 +67,16 @@ makes_entry (refused JournalFull) = false
 makes_entry (refused NoMemory) = false
 makes_entry reply = true
 
+-- a call and a reply that are equal to those of an entry that was made
+pub record AreOfEntry (call : CallData) (reply : ReplyData) (kept_call : CallData) (kept_reply : ReplyData) : Type 0 where
+  pub makes : makes_entry reply ≡ true
+  pub same_call : kept_call ≡ call
+  pub same_reply : kept_reply ≡ reply
+
 -- a session's call with this reply leads from old to new. It is refused for a full journal exactly where the journal is
 -- full. A reply that makes an entry is that of the machine, and this call with its reply stands last in the journal; with
--- any other journal and machine are as they were. What was found out before is kept, as far as the call allows it.
+-- any other journal and machine are as they were. What was found out before is kept, as far as the call allows it, and the
+-- steps that it made are counted.
 pub record IsCall (old : BookState) (session : ℕ) (call : CallData) (reply : ReplyData) (new : BookState) : Type 0 where
   pub full : (reply ≡ refused JournalFull) ↔ (is_full old.journal ≡ true)
   pub step : makes_entry reply ≡ true → IsStep old.machine session call reply new.machine
@@ -74,4 +84,6 @@ pub record IsCall (old : BookState) (session : ℕ) (call : CallData) (reply : R
   pub unchanged : makes_entry reply ≡ false → IsUnchanged old new
   pub results : new.results ≡ old.results
   pub idle : reply ≡ refused JournalFull → new.sets ≡ old.sets
-  pub work : (before after : ℕ) × LeavesSets old.machine old.sets call reply before after new.sets
+  pub made : ℕ
+  pub work : LeavesSets old.machine old.sets call reply 0 made new.sets
+  pub counted : new.steps ≡ capped (old.steps + made)

@@ -9,6 +9,8 @@ pub mod Steps
 pub mod Changes
 pub mod Runs
 pub mod Journal
+pub mod Callers
+pub mod CallerLaws
 pub mod JournalState
 pub mod Workers
 pub mod Events

@@ -77,7 +77,7 @@ IsKnownBy reply sequences lengths members = ⊤
 pub record Searches (state : TraceState) (reply : ReplyData) (before after : ℕ) (lengths : List ℕ) (old new : Kept) : Type 0 where
   pub initials : new.initials ≡ old.initials
   pub work : KeepsWork (record { sequences = state.sequences; lengths = lengths }) state.budget old.members before new.members after
-  -- so the same question again makes no step
+  -- so after any verdict but undecided the same question again makes no step
   pub known : IsKnownBy reply state.sequences lengths new.members
 
 -- no set changed, and no step was made
@@ -96,15 +96,20 @@ abbrev pub IfDone : ReplyData → Type 0 → Type 0 → Type 0
 IfDone done effect other = effect
 IfDone reply effect other = other
 
--- what a call with this reply leaves of the sets, while a counter of steps goes from before to after: a set is made with its
--- trace, cut by a return, searched in by a question, goes with its trace, and is left alone by all else
+-- what a call with this reply makes of the sets where it is no question: a set is made with its trace, cut by a return, goes
+-- with its trace, and is left alone by all else
+abbrev pub ChangesSets : Machine → List (List ℕ × Kept) → CallData → ReplyData → List (List ℕ × Kept) → Type 0
+ChangesSets machine old (opens name procs budget decls) reply new = IfDone reply (HasNewSet old name new) (new ≡ old)
+ChangesSets machine old (goes_back name m) reply new = IfDone reply (CutsSet machine old name m new) (new ≡ old)
+ChangesSets machine old (closes name) reply new = IfDone reply (new ≡ remove_entry (name_eq name) old) (new ≡ old)
+ChangesSets machine old call reply new = new ≡ old
+
+-- what a call with this reply leaves of the sets, while a counter of steps goes from before to after: a question searches
+-- in a set, and no other call makes a step
 abbrev pub LeavesSets : Machine → List (List ℕ × Kept) → CallData → ReplyData → ℕ → ℕ → List (List ℕ × Kept) → Type 0
-LeavesSets machine old (opens name procs budget decls) reply before after new = IfDone reply (HasNewSet old name new) (new ≡ old)
-LeavesSets machine old (goes_back name m) reply before after new = IfDone reply (CutsSet machine old name m new) (new ≡ old)
-LeavesSets machine old (closes name) reply before after new = IfDone reply (new ≡ remove_entry (name_eq name) old) (new ≡ old)
 LeavesSets machine old (asks name mark) reply before after new = SearchesSet machine old name mark reply before after new
 LeavesSets machine old (asks_why name mark) reply before after new = SearchesSet machine old name mark reply before after new
-LeavesSets machine old call reply before after new = new ≡ old
+LeavesSets machine old call reply before after new = ChangesSets machine old call reply new × (after ≡ before)
 
 -- the most steps that a question about the trace makes
 abbrev pub most_steps : TraceState → ℕ

@@ -57,6 +57,7 @@ Takes machine old n tasks new =
 -- these tasks are given; or None: memory was refused, and nothing was handed out
 pub record IsTaking (old : BookState) (n : ℕ) (given : Option (List Task)) (new : BookState) : Type 0 where
   pub unchanged : IsUnchanged old new
+  pub steps : new.steps ≡ old.steps
   pub takes :
       MatchOption given ((new.sets ≡ old.sets) × (new.results ≡ old.results))
       (λ tasks. Takes old.machine old.sets n tasks new.sets × (new.results ≡ with_taken old.results (length tasks)))
@@ -89,5 +90,6 @@ pub record Delivers (machine : Machine) (old : List (List ℕ × Kept)) (outcome
 
 pub record IsDelivery (old : BookState) (outcomes : List Expanded) (delivered : Results) (new : BookState) : Type 0 where
   pub unchanged : IsUnchanged old new
+  pub steps : new.steps ≡ old.steps
   pub delivers : Delivers old.machine old.sets outcomes delivered new.sets
   pub results : new.results ≡ sum_of old.results delivered

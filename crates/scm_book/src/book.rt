@@ -1,12 +1,12 @@
 //! The book of open traces.
-ghost use Rattle.std.specs.Prelude.{◌≡◌, ◌↔◌, [], false, map, None, Some, IsTrue, MatchResult};
+ghost use Rattle.std.specs.Prelude.{◌≡◌, ◌↔◌, ◌+◌, ◌-◌, [], false, map, None, Some, true, is_ok, IsTrue, IfOk, IfSome, IsSomeAnd, MatchOption, MatchResult};
 ghost use Rattle.scm_book.specs.Calls.{call_data, reply_data, entry_data, opens, claims, releases, reports, sets_mark, goes_back, raises, asks, asks_why, shows, lists, closes};
 ghost use Rattle.scm_book.specs.Machine.{empty_machine};
 ghost use Rattle.scm_book.specs.Sets.{HasRoom, HasRoomFor, HoldsFor, LeavesSets, SearchesSet};
-ghost use Rattle.scm_results.specs.Totals.{none_counted};
+ghost use Rattle.scm_results.specs.Totals.{capped, none_counted};
 ghost use Rattle.scm_book.specs.Workers.{IsTaking, IsDelivery};
 ghost use Rattle.scm_book.specs.Changes.{tells_of_change};
-ghost use Rattle.scm_book.specs.Journal.{count_of as count_in, IsCall, IsLegalBook};
+ghost use Rattle.scm_book.specs.Journal.{count_of as count_in, makes_entry, AreOfEntry, IsCall, IsLegalBook};
 
 use crate::journal::Journal;
 use crate::traces::Traces;
@@ -24,7 +24,7 @@ use std::marker::Model;
 ///
 /// Contracts see a record: `machine` is the machine that the book stands for, and `journal` its entries, a legal history
 /// that ends in this machine. Beside the machine stand `sets`, what questions and outcomes found out about each trace, and
-/// `results`, the totals of tasks and outcomes. A session is a number that the caller gives.
+/// `results`, the totals of tasks and outcomes, and `steps`, how many steps questions made. A session is a number that the caller gives.
 ///
 /// Each call answers `Refused(JournalFull)` where the journal is full, before all else; then what the machine answers, or
 /// `Refused(NoMemory)`. After these two refusals machine and journal are as they were, and after the first the sets too;
@@ -35,6 +35,7 @@ pub struct Book {
     traces: Traces,
     journal: Journal,
     results: Results,
+    steps: u64,
 }
 
 impl Model for Book {
@@ -43,7 +44,7 @@ impl Model for Book {
 
     ghost Value = { BookState };
 
-    ghost view = { λ b. record { journal = b.journal.entries; machine = machine_in b.traces; sets = sets_in b.traces; results = b.results } };
+    ghost view = { λ b. record { journal = b.journal.entries; machine = machine_in b.traces; sets = sets_in b.traces; results = b.results; steps = b.steps } };
 
     ghost invariant = { λ b. IsLegalHistory b.journal.entries (machine_in b.traces) };
 }
@@ -55,12 +56,14 @@ impl Book {
         ensures journal { result.journal ≡ [] }
         ensures sets { result.sets ≡ [] }
         ensures results { result.results ≡ none_counted }
+        ensures steps { result.steps ≡ 0 }
     {
         Book {
             alloc,
             traces: Traces::new(alloc),
             journal: Journal::new(alloc),
             results: Results::new(),
+            steps: 0,
         }
     }
 
@@ -92,6 +95,13 @@ impl Book {
         ensures { result ≡ self.now.results }
     {
         self.results
+    }
+
+    /// How many steps questions made in all, up to 2^64 - 1.
+    pub fn steps(&self) -> u64
+        ensures { result ≡ self.now.steps }
+    {
+        self.steps
     }
 
     /// Takes at most `n` tasks for workers, all of one trace: at least one where `n` isn't 0 and some trace has a next
@@ -127,39 +137,69 @@ impl Book {
     }
 
     /// Makes a call of a session. The machine is as it was after every reply but `Done` and `MarkSet`. The steps of a
-    /// question are counted in a counter of its own.
+    /// question are counted in the book's total.
     pub fn call(&mut self, session: u16, call: Call) -> Reply
         ensures called { IsCall self.old session (call_data call) (reply_data result) self.new }
         ensures kept { tells_of_change (reply_data result) ≡ false → self.new.machine ≡ self.old.machine }
         ensures legal { IsLegalBook self.new }
     {
         let mut steps = self.traces.new_counter(&call);
-        self.make(session, call, &mut steps)
+        let (reply, _) = self.make(session, call, None, &mut steps);
+        reply
     }
 
-    /// Makes a call of a session, and counts the steps of a question.
-    fn make(&mut self, session: u16, call: Call, steps: &mut Steps) -> Reply
-        requires room { HasRoom self.old.machine (call_data call) steps.old }
-        ensures called { IsCall self.old session (call_data call) (reply_data result) self.new }
-        ensures kept { tells_of_change (reply_data result) ≡ false → self.new.machine ≡ self.old.machine }
-        ensures sets { LeavesSets self.old.machine self.old.sets (call_data call) (reply_data result) steps.old steps.new self.new.sets }
+    /// Makes a call of a session, and gives copies of call and reply too where they made an entry. The copies are made
+    /// before anything changes, but for what a question finds out; where there is no memory for them, the call is refused.
+    pub fn call_kept(&mut self, session: u16, call: Call) -> (Reply, Option<(Call, Reply)>)
+        ensures called { IsCall self.old session (call_data call) (reply_data result.0) self.new }
+        ensures kept { MatchOption result.1 (makes_entry (reply_data result.0) ≡ false) (λ k. AreOfEntry (call_data call) (reply_data result.0) (call_data k.0) (reply_data k.1)) }
+        ensures machine { tells_of_change (reply_data result.0) ≡ false → self.new.machine ≡ self.old.machine }
         ensures legal { IsLegalBook self.new }
     {
         if self.journal.is_full() {
-            return Reply::Refused(Refusal::JournalFull);
+            return (Reply::Refused(Refusal::JournalFull), None);
+        }
+        let Ok(copy) = call.copy() else {
+            return (Reply::Refused(Refusal::NoMemory), None);
+        };
+        let mut steps = self.traces.new_counter(&call);
+        self.make(session, call, Some(copy), &mut steps)
+    }
+
+    /// Makes a call of a session, and counts the steps of a question. A copy of the call that is handed in comes back with
+    /// one of the reply, where they made an entry.
+    fn make(
+        &mut self,
+        session: u16,
+        call: Call,
+        copy: Option<Call>,
+        steps: &mut Steps,
+    ) -> (Reply, Option<(Call, Reply)>)
+        requires room { HasRoom self.old.machine (call_data call) steps.old }
+        ensures called { IsCall self.old session (call_data call) (reply_data result.0) self.new }
+        ensures kept { IfSome copy (λ copied. MatchOption result.1 (makes_entry (reply_data result.0) ≡ false) (λ k. AreOfEntry (call_data copied) (reply_data result.0) (call_data k.0) (reply_data k.1))) }
+        ensures machine { tells_of_change (reply_data result.0) ≡ false → self.new.machine ≡ self.old.machine }
+        ensures sets { LeavesSets self.old.machine self.old.sets (call_data call) (reply_data result.0) steps.old steps.new self.new.sets }
+        ensures counted { self.new.steps ≡ capped (self.old.steps + (steps.new - steps.old)) }
+        ensures legal { IsLegalBook self.new }
+    {
+        if self.journal.is_full() {
+            return (Reply::Refused(Refusal::JournalFull), None);
         }
         if self.journal.make_room(session).is_err() {
-            return Reply::Refused(Refusal::NoMemory);
+            return (Reply::Refused(Refusal::NoMemory), None);
         }
+        let before = steps.made();
         let reply = self.traces.call(session, &call, steps);
+        self.steps = self.steps.saturating_add(steps.made() - before);
         if !reply.makes_entry() {
-            return reply;
+            return (reply, None);
         }
-        let Ok(kept) = reply.copy() else {
-            return Reply::Refused(Refusal::NoMemory);
+        let Ok((entered, kept)) = copies(&reply, copy) else {
+            return (Reply::Refused(Refusal::NoMemory), None);
         };
-        self.journal.enter(session, call, kept);
-        reply
+        self.journal.enter(session, call, entered);
+        (reply, kept)
     }
 
     /// Opens a trace, which the session owns. Refused `BadDeclaration` where the number of processes isn't 1 to
@@ -252,17 +292,19 @@ impl Book {
     }
 
     /// Whether the trace is sequentially consistent, as it is or as it stood at a mark. Refused `NoSuchTrace`,
-    /// `NoSuchMark`. The counter needs room, as `has_room` says. What was found out stays for the next questions, and isn't
-    /// paid for again: at most two steps more are made than pairs of a situation and a process are looked at for the first
-    /// time, and none where a situation with every operation is held or all was looked at, as it is once the same question
-    /// was answered.
+    /// `NoSuchMark`. The counter needs room, as `has_room` says; what it rises by is counted in the book's total too. What
+    /// was found out stays for the next questions, and isn't paid for again: at most two steps more are made than pairs of
+    /// a situation and a process are looked at for the first time, and none where a situation with every operation is held
+    /// or all was looked at, as it is once the same question was answered with anything but `Undecided`.
     pub fn ask(&mut self, session: u16, name: Name, mark: Option<u64>, steps: &mut Steps) -> Reply
         requires room { HasRoomFor self.old.machine name steps.old }
         ensures called { IsCall self.old session (asks name mark) (reply_data result) self.new }
         ensures work { SearchesSet self.old.machine self.old.sets name mark (reply_data result) steps.old steps.new self.new.sets }
+        ensures counted { self.new.steps ≡ capped (self.old.steps + (steps.new - steps.old)) }
         ensures legal { IsLegalBook self.new }
     {
-        self.make(session, Call::Ask { name, mark }, steps)
+        let (reply, _) = self.make(session, Call::Ask { name, mark }, None, steps);
+        reply
     }
 
     /// The same, with a refutation in place of `Inconsistent`. Refused `NoSuchTrace`, `NoSuchMark`.
@@ -270,9 +312,11 @@ impl Book {
         requires room { HasRoomFor self.old.machine name steps.old }
         ensures called { IsCall self.old session (asks_why name mark) (reply_data result) self.new }
         ensures work { SearchesSet self.old.machine self.old.sets name mark (reply_data result) steps.old steps.new self.new.sets }
+        ensures counted { self.new.steps ≡ capped (self.old.steps + (steps.new - steps.old)) }
         ensures legal { IsLegalBook self.new }
     {
-        self.make(session, Call::Why { name, mark }, steps)
+        let (reply, _) = self.make(session, Call::Why { name, mark }, None, steps);
+        reply
     }
 
     /// The operations of a process, as they are stored. Refused `NoSuchTrace`, `NoSuchProcess`.
@@ -298,4 +342,17 @@ impl Book {
     {
         self.call(session, Call::CloseTrace { name })
     }
+}
+
+/// A copy of the reply for the journal, and another one beside the copy of the call where one is given.
+fn copies(reply: &Reply, call: Option<Call>) -> Result<(Reply, Option<(Call, Reply)>), NoMemory>
+    ensures entered { IfOk result (λ made. reply_data made.0 ≡ reply_data reply.now) }
+    ensures kept { IfOk result (λ made. IfSome call (λ copied. IsSomeAnd made.1 (λ k. (call_data k.0 ≡ call_data copied) × (reply_data k.1 ≡ reply_data reply.now)))) }
+    ensures light { tells_of_change (reply_data reply.now) ≡ true → is_ok result ≡ true }
+{
+    let entered = reply.copy()?;
+    let Some(call) = call else {
+        return Ok((entered, None));
+    };
+    Ok((entered, Some((call, reply.copy()?))))
 }

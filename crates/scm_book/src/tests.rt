@@ -3,6 +3,7 @@
 use crate::test_words::{ANNA, BERT, cell, is_done, load, name, store};
 use crate::{Book, Call, Event, Reply, run_events};
 use scm_cells::Name;
+use scm_frontier::Situation;
 use scm_schedules::{is_legal, refutes};
 use scm_sequences::{Op, Refusal, Sequences};
 use std::alloc::Global;
@@ -70,57 +71,49 @@ fn passed_message(alloc: Global, last: u64) -> Result<Sequences, Fail> {
 /// What the cells of `open_two` hold at first.
 const INITIALS: [Option<u64>; 2] = [Some(0), Some(0)];
 
+/// What the checkers say of a schedule of the passed message, which ends with this load.
+fn is_legal_message(alloc: Global, last: u64, schedule: &[u8]) -> Result<bool, Fail> {
+    let sequences = passed_message(alloc, last)?;
+    let lengths = sequences.lengths();
+    Ok(
+        sequences.names_cells_below(INITIALS.len())
+            && lengths.within(&sequences.lengths())
+            && is_legal(&INITIALS, &sequences, &lengths, schedule),
+    )
+}
+
+/// And of a refutation.
+fn refutes_message(alloc: Global, last: u64, situations: &[Situation]) -> Result<bool, Fail> {
+    let sequences = passed_message(alloc, last)?;
+    let lengths = sequences.lengths();
+    if !sequences.names_cells_below(INITIALS.len()) || !lengths.within(&sequences.lengths()) {
+        return Ok(false);
+    }
+    Ok(refutes(alloc, &INITIALS, &sequences, &lengths, situations)?)
+}
+
+// A message that passes is consistent; one that is lost is refuted.
 #[test]
-fn message_passing_is_consistent(rt: HostRuntime) -> Result<(), Fail> {
+fn messages_are_judged(rt: HostRuntime) -> Result<(), Fail> {
     let mut book = Book::new(rt.alloc());
     open_two(&rt, &mut book, 100);
+    let t = name(&rt, b"t");
+    assert!(rt; matches!(book.mark(ANNA, t), Reply::MarkSet(0)));
     pass_message(&rt, &mut book, 1);
-    let Reply::Consistent { schedule, .. } = ask(&mut book, BERT, name(&rt, b"t"), None) else {
+    let Reply::Consistent { schedule, .. } = ask(&mut book, BERT, t, None) else {
         return Err("not consistent".into());
     };
     assert_eq!(rt; schedule.as_slice(), [0, 0, 1, 1].as_slice());
-    let sequences = passed_message(rt.alloc(), 1)?;
-    let lengths = sequences.lengths();
-    assert!(rt; sequences.names_cells_below(INITIALS.len()));
-    assert!(rt; lengths.within(&sequences.lengths()));
-    assert!(rt; is_legal(&INITIALS, &sequences, &lengths, &schedule));
-    Ok(())
-}
-
-#[test]
-fn message_lost_is_refuted(rt: HostRuntime) -> Result<(), Fail> {
-    let mut book = Book::new(rt.alloc());
-    open_two(&rt, &mut book, 100);
+    assert!(rt; is_legal_message(rt.alloc(), 1, &schedule)?);
+    assert!(rt; is_done(book.back(ANNA, t, 0)));
     pass_message(&rt, &mut book, 0);
-    assert!(rt;
-        matches!(
-            ask(&mut book, ANNA, name(&rt, b"t"), None),
-            Reply::Inconsistent
-        )
-    );
-    let Reply::Because(situations) = why(&mut book, ANNA, name(&rt, b"t"), None).copy()? else {
+    assert!(rt; matches!(ask(&mut book, ANNA, t, None), Reply::Inconsistent));
+    let Reply::Because(situations) = why(&mut book, ANNA, t, None).copy()? else {
         return Err("not refuted".into());
     };
     assert_eq!(rt; situations.len(), 4);
-    let sequences = passed_message(rt.alloc(), 0)?;
-    let lengths = sequences.lengths();
-    assert!(rt; sequences.names_cells_below(INITIALS.len()));
-    assert!(rt; lengths.within(&sequences.lengths()));
-    assert!(rt; refutes(rt.alloc(), &INITIALS, &sequences, &lengths, &situations)?);
+    assert!(rt; refutes_message(rt.alloc(), 0, &situations)?);
     Ok(())
-}
-
-#[test]
-fn small_budget_is_undecided(rt: HostRuntime) {
-    let mut book = Book::new(rt.alloc());
-    open_two(&rt, &mut book, 1);
-    pass_message(&rt, &mut book, 0);
-    assert!(rt;
-        matches!(
-            ask(&mut book, ANNA, name(&rt, b"t"), None),
-            Reply::Undecided
-        )
-    );
 }
 
 #[test]
@@ -147,7 +140,7 @@ fn calls_are_copied_and_made(rt: HostRuntime) -> Result<(), Fail> {
         access: load(&rt, b"x", 0),
     };
     assert!(rt; is_done(book.call(ANNA, report.copy()?)));
-    let verdict = book.call(
+    let (verdict, kept) = book.call_kept(
         ANNA,
         Call::Ask {
             name: t,
@@ -156,9 +149,11 @@ fn calls_are_copied_and_made(rt: HostRuntime) -> Result<(), Fail> {
         .copy()?,
     );
     assert!(rt; matches!(verdict.copy()?, Reply::Undecided));
+    assert!(rt; matches!(kept, Some((Call::Ask { .. }, Reply::Undecided))));
     Ok(())
 }
 
+// Under a budget of 1 the lost message is undecided.
 #[test]
 fn a_return_cuts_to_its_mark(rt: HostRuntime) {
     let mut book = Book::new(rt.alloc());
@@ -166,7 +161,7 @@ fn a_return_cuts_to_its_mark(rt: HostRuntime) {
     let t = name(&rt, b"t");
     assert!(rt; matches!(book.mark(ANNA, t), Reply::MarkSet(0)));
     pass_message(&rt, &mut book, 0);
-    assert!(rt; matches!(ask(&mut book, BERT, t, None), Reply::Undecided));
+    assert!(rt; matches!(ask(&mut book, ANNA, t, None), Reply::Undecided));
     assert_empty_schedule(&rt, ask(&mut book, BERT, t, Some(0)));
     assert!(rt; is_done(book.raise(ANNA, t, 100)));
     assert!(rt; matches!(ask(&mut book, BERT, t, None), Reply::Inconsistent));

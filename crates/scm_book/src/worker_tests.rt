@@ -128,7 +128,8 @@ fn work_off(rt: &impl Abort, alloc: Global, book: &mut Book) -> Result<(), Fail>
     Err("tasks without end".into())
 }
 
-// An outcome counts for a trace that was opened again, where it is a step of that trace too.
+// An outcome is stale where its trace is gone, whatever else is open. It counts for a trace that was opened again, where it
+// is a step of that trace too.
 #[test]
 fn reopened(rt: HostRuntime) -> Result<(), Fail> {
     let mut book = Book::new(rt.alloc());
@@ -136,7 +137,14 @@ fn reopened(rt: HostRuntime) -> Result<(), Fail> {
     report(&rt, &mut book, 0, store(&rt, b"x", 1));
     let outcome = next_outcome(&rt, &mut book);
     let again = outcome.copy()?;
+    let stranger = outcome.copy()?;
     assert!(rt; is_done(book.close(ANNA, name(&rt, b"t"))));
+    let cells = [cell(&rt, b"x")];
+    assert!(rt; is_done(book.open(ANNA, name(&rt, b"u"), 1, 100, &cells)));
+    assert_eq!(rt;
+        deliver_one(rt.alloc(), &mut book, stranger)?,
+        one(Fate::Stale)
+    );
     open_x(&rt, &mut book, 1, 100);
     report(&rt, &mut book, 0, store(&rt, b"x", 1));
     assert_eq!(rt;
@@ -152,14 +160,20 @@ fn reopened(rt: HostRuntime) -> Result<(), Fail> {
     Ok(())
 }
 
+// Two takings give different tasks, and a third one of them again. Under a budget of 2 the outcome of the second finds the
+// set full, and room once the budget was raised.
 #[test]
 fn full_then_room(rt: HostRuntime) -> Result<(), Fail> {
     let mut book = Book::new(rt.alloc());
     store_twice(&rt, &mut book);
-    let mut tasks = book.take(2)?;
-    let second = expanded(&rt, tasks.pop().ok_or("a second task")?);
-    let first = expanded(&rt, tasks.pop().ok_or("a first task")?);
-    assert_eq!(rt; first.task().process, 0);
+    let first = take_one(&rt, &mut book).expect(&rt, "a first task");
+    let second = take_one(&rt, &mut book).expect(&rt, "a second task");
+    let third = take_one(&rt, &mut book).expect(&rt, "a task again");
+    assert_eq!(rt; first.process, 0);
+    assert!(rt; first.process != second.process);
+    assert!(rt; is_same(&third, &first) || is_same(&third, &second));
+    let first = expanded(&rt, first);
+    let second = expanded(&rt, second);
     let again = second.copy()?;
     let mut expected = one(Fate::Accepted);
     expected.deliver(Fate::Full);
@@ -168,22 +182,6 @@ fn full_then_room(rt: HostRuntime) -> Result<(), Fail> {
     assert_eq!(rt;
         deliver_one(rt.alloc(), &mut book, again)?,
         one(Fate::Accepted)
-    );
-    Ok(())
-}
-
-#[test]
-fn stranger(rt: HostRuntime) -> Result<(), Fail> {
-    let mut book = Book::new(rt.alloc());
-    open_x(&rt, &mut book, 1, 100);
-    report(&rt, &mut book, 0, store(&rt, b"x", 1));
-    let outcome = next_outcome(&rt, &mut book);
-    assert!(rt; is_done(book.close(ANNA, name(&rt, b"t"))));
-    let cells = [cell(&rt, b"x")];
-    assert!(rt; is_done(book.open(ANNA, name(&rt, b"u"), 1, 100, &cells)));
-    assert_eq!(rt;
-        deliver_one(rt.alloc(), &mut book, outcome)?,
-        one(Fate::Stale)
     );
     Ok(())
 }
@@ -201,34 +199,6 @@ fn no_step(rt: HostRuntime) -> Result<(), Fail> {
         one(Fate::Known)
     );
     assert!(rt; take_one(&rt, &mut book).is_none());
-    Ok(())
-}
-
-#[test]
-fn two_takes(rt: HostRuntime) {
-    let mut book = Book::new(rt.alloc());
-    store_twice(&rt, &mut book);
-    let first = take_one(&rt, &mut book).expect(&rt, "a first task");
-    let second = take_one(&rt, &mut book).expect(&rt, "a second task");
-    let third = take_one(&rt, &mut book).expect(&rt, "a task again");
-    assert!(rt; first.process != second.process);
-    assert!(rt; is_same(&third, &first) || is_same(&third, &second));
-}
-
-// What workers found out is spared a question.
-#[test]
-fn spared(rt: HostRuntime) -> Result<(), Fail> {
-    let mut book = Book::new(rt.alloc());
-    buffer_stores(&rt, &mut book);
-    work_off(&rt, rt.alloc(), &mut book)?;
-    let results = book.results();
-    assert_eq!(rt; results.accepted, 7);
-    assert_eq!(rt; results.known, 5);
-    assert_eq!(rt; results.delivered(), 12);
-    assert_eq!(rt; results.taken, 12);
-    let (reply, steps) = ask(&rt, &mut book);
-    assert!(rt; matches!(reply, Reply::Inconsistent));
-    assert_eq!(rt; steps, 0);
     Ok(())
 }
 
@@ -259,19 +229,33 @@ fn late_outcome(rt: HostRuntime) -> Result<(), Fail> {
     Ok(())
 }
 
+// What a question found out is spared the next one, and what workers found out too. The book counts all steps.
 #[test]
-fn steps_kept(rt: HostRuntime) {
+fn steps_kept(rt: HostRuntime) -> Result<(), Fail> {
     let mut book = Book::new(rt.alloc());
     buffer_stores(&rt, &mut book);
-    let (reply, steps) = ask(&rt, &mut book);
+    let (reply, made) = ask(&rt, &mut book);
     assert!(rt; matches!(reply, Reply::Inconsistent));
-    assert!(rt; 0 < steps && steps <= 14);
+    assert!(rt; 0 < made && made <= 14);
     let (reply, steps) = ask(&rt, &mut book);
     assert!(rt; matches!(reply, Reply::Inconsistent));
     assert_eq!(rt; steps, 0);
     let (reply, steps) = why(&rt, &mut book);
     assert!(rt; matches!(reply, Reply::Because(_)));
     assert_eq!(rt; steps, 0);
+    assert!(rt; is_done(book.close(ANNA, name(&rt, b"t"))));
+    buffer_stores(&rt, &mut book);
+    work_off(&rt, rt.alloc(), &mut book)?;
+    let results = book.results();
+    assert_eq!(rt; results.accepted, 7);
+    assert_eq!(rt; results.known, 5);
+    assert_eq!(rt; results.delivered(), 12);
+    assert_eq!(rt; results.taken, 12);
+    let (reply, steps) = ask(&rt, &mut book);
+    assert!(rt; matches!(reply, Reply::Inconsistent));
+    assert_eq!(rt; steps, 0);
+    assert_eq!(rt; book.steps(), made);
+    Ok(())
 }
 
 fn by_anna(call: Call) -> Event {
@@ -305,6 +289,9 @@ fn events_mixed(rt: HostRuntime) -> Result<(), Fail> {
     assert!(rt; matches!(replies[0], Reply::Traces(_)));
     assert!(rt; matches!(replies[1], Reply::Inconsistent));
     assert!(rt; matches!(replies[2], Reply::Done));
+    // one task was taken before the events, and one was left for the taking among them
+    assert_eq!(rt; book.results().taken, 2);
     assert_eq!(rt; book.results().delivered(), 1);
+    assert_eq!(rt; book.results().taken, 2);
     Ok(())
 }

@@ -7,10 +7,11 @@ use Rattle.std.specs.Str.{bytes_eq}
 use Rattle.clap.specs.Walk.{Held, Text, Walk, finished, one_of, walked}
 use Rattle.clap.specs.Simple.{matches_of}
 use Rattle.clap.specs.Faults.{fault_of, walk_fault}
+use Rattle.clap.specs.Kinds.{Kinds}
 use Rattle.clap.specs.Takes.{takes}
 use Rattle.clap.specs.declared.error.kind.ErrorKind.TheVariants as kind
 use Rattle.clap.proofs.OnLiterals.{clap_on_literals}
-use Rattle.scm_monitor.specs.CommandLine.{IsOption, asks_for_journal, command_line}
+use Rattle.scm_monitor.specs.CommandLine.{ComesFirst, IsHelp, IsOption, IsVersion, asks_for_journal, command_line}
 use Rattle.scm_monitor.proofs.Turns.{Turns, at, cons≢nil, held, left, right, rules, shape, turn}
 
 -- the words are options, and the walk over them ends where `--journal` was used if it was among them
@@ -74,9 +75,66 @@ pub takes_journal : takes command_line (codes "--journal" ∷ []) ≡ true
 unfolding clap_on_literals
 takes_journal = refl
 
-pub help_shown : fault_of command_line (codes "--help" ∷ []) ≡ kind.DisplayHelp ∷ []
-unfolding clap_on_literals
-help_shown = refl
+abbrev journal_then : Text → List Text → List Text
+journal_then word rest = codes "--journal" ∷ word ∷ rest
 
-pub help_fails : (words : List Text) → words ≡ codes "--help" ∷ [] → fault_of command_line words ≡ [] → ⊥
-help_fails words e none = cons≢nil kind.DisplayHelp [] (sym help_shown ∙ ap (fault_of command_line) (sym e) ∙ none)
+help_is_shown : (rest : List Text) → fault_of command_line (codes "--help" ∷ rest) ≡ kind.DisplayHelp ∷ []
+unfolding clap_on_literals walk_fault
+help_is_shown rest = refl
+
+h_is_shown : (rest : List Text) → fault_of command_line (codes "-h" ∷ rest) ≡ kind.DisplayHelp ∷ []
+unfolding clap_on_literals walk_fault
+h_is_shown rest = refl
+
+help_is_shown_after : (rest : List Text) → fault_of command_line (journal_then (codes "--help") rest) ≡ kind.DisplayHelp ∷ []
+unfolding clap_on_literals walk_fault
+help_is_shown_after rest = refl
+
+h_is_shown_after : (rest : List Text) → fault_of command_line (journal_then (codes "-h") rest) ≡ kind.DisplayHelp ∷ []
+unfolding clap_on_literals walk_fault
+h_is_shown_after rest = refl
+
+version_is_shown : (rest : List Text) → fault_of command_line (codes "--version" ∷ rest) ≡ kind.DisplayVersion ∷ []
+unfolding clap_on_literals walk_fault
+version_is_shown rest = refl
+
+v_is_shown : (rest : List Text) → fault_of command_line (codes "-V" ∷ rest) ≡ kind.DisplayVersion ∷ []
+unfolding clap_on_literals walk_fault
+v_is_shown rest = refl
+
+version_is_shown_after : (rest : List Text) → fault_of command_line (journal_then (codes "--version") rest) ≡ kind.DisplayVersion ∷ []
+unfolding clap_on_literals walk_fault
+version_is_shown_after rest = refl
+
+v_is_shown_after : (rest : List Text) → fault_of command_line (journal_then (codes "-V") rest) ≡ kind.DisplayVersion ∷ []
+unfolding clap_on_literals walk_fault
+v_is_shown_after rest = refl
+
+of_words : {a b : List Text} {k : Kinds} → a ≡ b → fault_of command_line b ≡ k → fault_of command_line a ≡ k
+of_words same e = ap (fault_of command_line) same ∙ e
+
+of_first : {a rest : List Text} {word other : Text} {k : Kinds} → a ≡ word ∷ rest → word ≡ other
+    → fault_of command_line (other ∷ rest) ≡ k → fault_of command_line a ≡ k
+of_first {rest = rest} e is f = of_words (e ∙ ap (λ (w : Text). w ∷ rest) is) f
+
+of_second : {a rest : List Text} {word other : Text} {k : Kinds} → a ≡ journal_then word rest → word ≡ other
+    → fault_of command_line (journal_then other rest) ≡ k → fault_of command_line a ≡ k
+of_second {rest = rest} e is f = of_words (e ∙ ap (λ (w : Text). journal_then w rest) is) f
+
+pub help_shown : (words : List Text) → ComesFirst IsHelp words → fault_of command_line words ≡ kind.DisplayHelp ∷ []
+help_shown words (word, rest, inl is, inl e) = of_first e is (help_is_shown rest)
+help_shown words (word, rest, inl is, inr e) = of_second e is (help_is_shown_after rest)
+help_shown words (word, rest, inr is, inl e) = of_first e is (h_is_shown rest)
+help_shown words (word, rest, inr is, inr e) = of_second e is (h_is_shown_after rest)
+
+pub version_shown : (words : List Text) → ComesFirst IsVersion words → fault_of command_line words ≡ kind.DisplayVersion ∷ []
+version_shown words (word, rest, inl is, inl e) = of_first e is (version_is_shown rest)
+version_shown words (word, rest, inl is, inr e) = of_second e is (version_is_shown_after rest)
+version_shown words (word, rest, inr is, inl e) = of_first e is (v_is_shown rest)
+version_shown words (word, rest, inr is, inr e) = of_second e is (v_is_shown_after rest)
+
+pub help_fails : (words : List Text) → ComesFirst IsHelp words → fault_of command_line words ≡ [] → ⊥
+help_fails words first none = cons≢nil kind.DisplayHelp [] (sym (help_shown words first) ∙ none)
+
+pub version_fails : (words : List Text) → ComesFirst IsVersion words → fault_of command_line words ≡ [] → ⊥
+version_fails words first none = cons≢nil kind.DisplayVersion [] (sym (version_shown words first) ∙ none)

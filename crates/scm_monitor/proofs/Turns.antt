@@ -10,8 +10,8 @@ use Rattle.clap.proofs.CutLemmas.{Lacks, before_first-Lacks}
 use Rattle.clap.specs.Lexer.{has_byte, long_of, long_of_rest, name_and_value, short_of, strip_byte}
 use Rattle.clap.specs.Kinds.{Kinds, or_else}
 use Rattle.clap.specs.Walk.{Held, Row, Rule, Step, Text, Walk, after_flag, bundle_met, bundle_step, idle, long_or_other, plain, reading_by, short_or_plain, trailing}
-use Rattle.clap.specs.Simple.{Shape, built, filled, with_index}
-use Rattle.clap.specs.Faults.{bundle_fault, bundle_step_fault, flag_word_fault, flags_fault, long_fault, step_fault, turn_fault}
+use Rattle.clap.specs.Simple.{Shape, built, filled, version_rule as version_option, with_index}
+use Rattle.clap.specs.Faults.{bundle_fault, bundle_step_fault, flag_word_fault, flags_fault, long_fault, short_fault, step_fault, turn_fault}
 use Rattle.clap.specs.declared.parser.matches.ValueSource.TheVariants.{CommandLine}
 use Rattle.clap.specs.declared.error.kind.ErrorKind.TheVariants as kind
 use Rattle.scm_monitor.specs.CommandLine.{command_line, help_option, journal_option}
@@ -114,9 +114,23 @@ journal_rule = with_index 1 (filled journal_option)
 abbrev help_rule : Rule
 help_rule = with_index 1 (filled help_option)
 
--- the option of a name, by whether the name is `journal` and whether it is `help`
-abbrev named : Bool → Bool → Option Rule
-named is_journal is_help = cond (is_journal || false) (Some journal_rule) (cond (is_help || false) (Some help_rule) None)
+abbrev version_rule : Rule
+version_rule = with_index 1 (filled version_option)
+
+-- the option of a name, by whether the name is `journal`, `help` or `version`
+abbrev named : Bool → Bool → Bool → Option Rule
+named is_journal is_help is_version = cond (is_journal || false) (Some journal_rule)
+    (cond (is_help || false) (Some help_rule) (cond (is_version || false) (Some version_rule) None))
+
+-- the option of a letter, by whether the letter is `h` or `V`
+abbrev lettered : Bool → Bool → Option Rule
+lettered is_help is_version = cond (is_help || false) (Some help_rule) (cond (is_version || false) (Some version_rule) None)
+
+letter_met : (used : Bool) (word rest : Text) (next : Held → Kinds) (is_help is_version : Bool)
+    → short_fault rules false (lettered is_help is_version) rest (held used) next ≡ [] → Turns used false word
+letter_met used word rest next true v e = absurd (cons≢nil kind.DisplayHelp [] e)
+letter_met used word rest next false true e = absurd (cons≢nil kind.DisplayVersion [] e)
+letter_met used word rest next false false e = absurd (cons≢nil kind.UnknownArgument [] e)
 
 char_met : (used : Bool) (word : Text) (x : ℕ) (xs : Text) (o : Option ℕ)
     → or_else (bundle_step_fault rules false o (x ∷ xs) 0 (held used) (flags_fault rules false (length xs)))
@@ -124,7 +138,7 @@ char_met : (used : Bool) (word : Text) (x : ℕ) (xs : Text) (o : Option ℕ)
     (bundle_step rules o (x ∷ xs) 0 plain (held used) (bundle_met rules (length xs))).1)) ≡ []
     → Turns used false word
 char_met used word x xs None e = absurd (cons≢nil kind.UnknownArgument [] e)
-char_met used word x xs (Some y) e = absurd (cons≢nil kind.UnknownArgument [] e)
+char_met used word x xs (Some y) e = letter_met used word _ _ (104 == y) (86 == y) (left _ _ e)
 
 short_met : (used : Bool) (word : Text) (s : Option Text)
     → or_else (option_map_or (λ flags. bundle_fault rules false flags (held used)) s []) (fault_after (short_or_plain rules idle word s (held used))) ≡ []
@@ -134,22 +148,25 @@ short_met used word None e = absurd (cons≢nil kind.UnknownArgument [] e)
 short_met used word (Some []) e = absurd (cons≢nil kind.UnknownArgument [] e)
 short_met used word (Some (x ∷ xs)) e = char_met used word x xs (slice_get (chars (x ∷ xs)) 0) e
 
-named_met : (used : Bool) (word name : Text) (v : Option Text) (is_journal is_help : Bool) → long_of word ≡ Some (name, v)
-    → bytes_eq (codes "journal") name ≡ is_journal → long_fault rules false (named is_journal is_help) v (held used) ≡ [] → Turns used false word
-named_met used word name (Some t) true h is same e = absurd (cons≢nil kind.TooManyValues [] e)
-named_met true word name None true h is same e = absurd (cons≢nil kind.ArgumentConflict [] e)
-named_met false word name None true h is same e =
+named_met : (used : Bool) (word name : Text) (v : Option Text) (is_journal is_help is_version : Bool) → long_of word ≡ Some (name, v)
+    → bytes_eq (codes "journal") name ≡ is_journal → long_fault rules false (named is_journal is_help is_version) v (held used) ≡ [] → Turns used false word
+named_met used word name (Some t) true h n is same e = absurd (cons≢nil kind.TooManyValues [] e)
+named_met true word name None true h n is same e = absurd (cons≢nil kind.ArgumentConflict [] e)
+named_met false word name None true h n is same e =
     (refl, inr (is_name word name is ∙ ap (λ (t : Text). 45 ∷ 45 ∷ t) (sym ((bytes_eq-Decides (codes "journal") name).0 same)), refl))
-named_met used word name (Some t) false true is same e = absurd (cons≢nil kind.TooManyValues [] e)
-named_met used word name None false true is same e = absurd (cons≢nil kind.DisplayHelp [] e)
-named_met used word name v false false is same e = absurd (cons≢nil kind.UnknownArgument [] e)
+named_met used word name (Some t) false true n is same e = absurd (cons≢nil kind.TooManyValues [] e)
+named_met used word name None false true n is same e = absurd (cons≢nil kind.DisplayHelp [] e)
+named_met used word name (Some t) false false true is same e = absurd (cons≢nil kind.TooManyValues [] e)
+named_met used word name None false false true is same e = absurd (cons≢nil kind.DisplayVersion [] e)
+named_met used word name v false false false is same e = absurd (cons≢nil kind.UnknownArgument [] e)
 
 long_met : (used : Bool) (word : Text) (l : Option (Text × Option Text)) → long_of word ≡ l
     → or_else (flag_word_fault rules false l word (held used)) (fault_after (long_or_other rules idle word l (held used))) ≡ []
     → Turns used false word
 long_met used word None is e = short_met used word (short_of word) e
 long_met used word (Some p) is e =
-    named_met used word p.0 p.1 (bytes_eq (codes "journal") p.0) (bytes_eq (codes "help") p.0) is refl (left _ _ e)
+    named_met used word p.0 p.1 (bytes_eq (codes "journal") p.0) (bytes_eq (codes "help") p.0) (bytes_eq (codes "version") p.0) is refl
+    (left _ _ e)
 
 dashes_met : (used : Bool) (word : Text) (b : Bool) → bytes_eq word (codes "--") ≡ b
     → or_else (if b then [] else flag_word_fault rules false (long_of word) word (held used))

@@ -1,5 +1,5 @@
 -- The words of the command line. This project's profile.
-use Rattle.std.specs.Prelude.{◌≡◌, ◌⊎◌, ℕ, List, Bool, true, Some, codes}
+use Rattle.std.specs.Prelude.{◌≡◌, ◌⊎◌, ℕ, List, [], ◌∷◌, Bool, true, Some, codes}
 use Rattle.std.specs.List.{list_any}
 use Rattle.std.specs.Str.{bytes_eq}
 use Rattle.clap.specs.Walk.{Rule}
@@ -14,6 +14,17 @@ asks_for_journal = list_any (λ word. bytes_eq word (codes "--journal"))
 abbrev pub IsOption : List ℕ → Type 0
 IsOption word = (word ≡ codes "--journal") ⊎ (word ≡ codes "--")
 
+abbrev pub IsHelp : List ℕ → Type 0
+IsHelp word = (word ≡ codes "--help") ⊎ (word ≡ codes "-h")
+
+abbrev pub IsVersion : List ℕ → Type 0
+IsVersion word = (word ≡ codes "--version") ⊎ (word ≡ codes "-V")
+
+-- such a word comes first, or after `--journal`; what stands behind it isn't read
+abbrev pub ComesFirst : (List ℕ → Type 0) → List (List ℕ) → Type 0
+ComesFirst Is words = (word : List ℕ) × (rest : List (List ℕ)) × Is word
+    × ((words ≡ word ∷ rest) ⊎ (words ≡ codes "--journal" ∷ word ∷ rest))
+
 -- what clap is told of the command line
 
 abbrev pub journal_option : Rule
@@ -24,6 +35,7 @@ journal_option = record (new_rule (codes "journal")) {
 
 abbrev pub help_option : Rule
 help_option = record (new_rule (codes "help")) {
+  short = Some 104;
   long = Some (codes "help");
   action = Some Help;
 }
@@ -32,4 +44,5 @@ abbrev pub command_line : App
 command_line = with_rule (with_rule (on_top (λ top. record top {
   no_binary_name = true;
   disable_help_flag = true;
+  has_version = true;
 }) (new_app (codes "scm_monitor"))) journal_option) help_option

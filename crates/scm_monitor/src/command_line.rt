@@ -2,12 +2,15 @@
 ghost use Rattle.std.specs.Prelude.{◌≡◌, ◌⊎◌, [], ◌∷◌, map, codes, IfOk, IfErr, IsErrAnd};
 ghost use Rattle.std.specs.List.{All};
 ghost use Rattle.clap.specs.Words.{app_of, kind_of};
-ghost use Rattle.scm_monitor.specs.CommandLine.{asks_for_journal, command_line, IsOption};
+ghost use Rattle.scm_monitor.specs.CommandLine.{asks_for_journal, command_line, ComesFirst, IsHelp, IsOption, IsVersion};
 
 use crate::settings::Options;
 use clap::error::ErrorKind;
 use clap::{Arg, ArgAction, Command, Error};
 use std::alloc::Global;
+
+/// What `--version` tells beside the program's name.
+const VERSION: &str = "0.1.0";
 
 /// What the program is for.
 const ABOUT: &str =
@@ -46,6 +49,7 @@ fn command<'a>(alloc: Global) -> Result<Command<'a>, Error>
         .action(ArgAction::SetTrue)
         .help("Write the journal after the replies: each call's place, session, number and reply");
     let help = Arg::new(alloc, "help")
+        .short('h')
         .long("help")
         .action(ArgAction::Help)
         .help("Print this help");
@@ -53,6 +57,7 @@ fn command<'a>(alloc: Global) -> Result<Command<'a>, Error>
         Command::new(alloc, "scm_monitor")
             .no_binary_name(true)
             .disable_help_flag(true)
+            .version(VERSION)
             .about(ABOUT)
             .after_help(CALLS)
             .arg(journal)?
@@ -60,13 +65,16 @@ fn command<'a>(alloc: Global) -> Result<Command<'a>, Error>
     )
 }
 
-/// Reads the words after the program's name. `--help` is answered by an error whose text is the help; so are words that
-/// the program doesn't take, and want of memory.
+/// Reads the words after the program's name, from the first to the last. `--help` and `--version` end the reading, and are
+/// answered by an error whose text is the help or the version; a word that the program doesn't take is answered by an
+/// error, and so is want of memory.
 pub fn options<'a>(alloc: Global, words: &'a [&'a str]) -> Result<Options, Error>
     ensures journal { IfOk result (λ options. options.journal ≡ asks_for_journal (map (λ word. word.now) words.entry.now)) }
     ensures options { IfOk result (λ _. All IsOption (map (λ word. word.now) words.entry.now)) }
-    ensures help { map (λ word. word.now) words.entry.now ≡ codes "--help" ∷ []
+    ensures help { ComesFirst IsHelp (map (λ word. word.now) words.entry.now)
         → IsErrAnd result (λ error. (kind_of error ≡ ErrorKind.DisplayHelp) ⊎ (kind_of error ≡ ErrorKind.OutOfMemory)) }
+    ensures version { ComesFirst IsVersion (map (λ word. word.now) words.entry.now)
+        → IsErrAnd result (λ error. (kind_of error ≡ ErrorKind.DisplayVersion) ⊎ (kind_of error ≡ ErrorKind.OutOfMemory)) }
     ensures taken { (map (λ word. word.now) words.entry.now ≡ []) ⊎ (map (λ word. word.now) words.entry.now ≡ codes "--journal" ∷ [])
         → IfErr result (λ error. kind_of error ≡ ErrorKind.OutOfMemory) }
 {
@@ -79,6 +87,8 @@ pub fn options<'a>(alloc: Global, words: &'a [&'a str]) -> Result<Options, Error
 #[cfg(test)]
 mod tests {
     use super::*;
+    use scm_book::Call;
+    use scm_sessions::read_line;
     use std::test::Fail;
 
     #[test]
@@ -98,7 +108,13 @@ mod tests {
 
     #[test]
     fn help_is_an_error_with_the_text(rt: HostRuntime) -> Result<(), Fail> {
-        for words in [["--help"].as_slice(), ["--journal", "--help"].as_slice()] {
+        for words in [
+            ["--help"].as_slice(),
+            ["-h"].as_slice(),
+            ["--journal", "--help"].as_slice(),
+            ["--help", "--workers"].as_slice(),
+            ["--help", "--help"].as_slice(),
+        ] {
             let Err(error) = options(rt.alloc(), words) else {
                 return Err(Fail::from("help was no error"));
             };
@@ -122,6 +138,69 @@ mod tests {
     }
 
     #[test]
+    fn version_is_an_error_with_the_text(rt: HostRuntime) -> Result<(), Fail> {
+        for words in [
+            ["--version"].as_slice(),
+            ["-V"].as_slice(),
+            ["--journal", "--version", "--workers"].as_slice(),
+        ] {
+            let Err(error) = options(rt.alloc(), words) else {
+                return Err(Fail::from("version was no error"));
+            };
+            assert!(rt; error.kind() == ErrorKind::DisplayVersion);
+            assert!(rt; !error.use_stderr());
+            let text = format!(in rt.alloc(); "{error}")?;
+            assert_eq!(rt; text.as_str(), "scm_monitor 0.1.0\n");
+        }
+        Ok(())
+    }
+
+    fn is_example(line: &str) -> bool {
+        line.starts_with("  a ")
+    }
+
+    /// The word of a call, with what the help says beside its example.
+    fn explained_word(call: &Call) -> &'static str {
+        match call {
+            Call::OpenTrace {
+                procs: 2,
+                budget: 100,
+                ..
+            } => "open",
+            Call::ClaimProcess { process: 0, .. } => "claim",
+            Call::ReleaseProcess { process: 0, .. } => "release",
+            Call::Report { process: 0, .. } => "do",
+            Call::SetMark { .. } => "mark",
+            Call::GoBack { mark: 0, .. } => "back",
+            Call::RaiseBudget { budget: 1000, .. } => "raise",
+            Call::Ask { mark: None, .. } => "ask",
+            Call::Why { mark: None, .. } => "why",
+            Call::ShowOps { process: 0, .. } => "show",
+            Call::ListTraces => "list",
+            Call::CloseTrace { .. } => "close",
+            _ => "",
+        }
+    }
+
+    #[test]
+    fn the_examples_of_the_help_are_calls(rt: HostRuntime) -> Result<(), Fail> {
+        for line in CALLS.split('\n') {
+            if !is_example(line) {
+                continue;
+            }
+            let (example, _) = line.trim_start().split_once("   ").ok_or("no explanation")?;
+            let Ok((_, call)) = read_line(rt.alloc(), example.as_bytes()) else {
+                return Err(Fail::from("an example is no call"));
+            };
+            let word = example.split(' ').nth(1);
+            assert_eq!(rt; word, Some(explained_word(&call)));
+        }
+        let examples = CALLS.split('\n').filter(|line| is_example(line)).count();
+        assert_eq!(rt; examples, 12);
+        Ok(())
+    }
+
+    #[test]
     fn other_words_are_refused(rt: HostRuntime) -> Result<(), Fail> {
         for words in [
             ["--workers"].as_slice(),
@@ -131,7 +210,10 @@ mod tests {
             ["--journal", "--journal"].as_slice(),
             ["--journa"].as_slice(),
             ["-j"].as_slice(),
-            ["-h"].as_slice(),
+            ["-jh"].as_slice(),
+            ["--version=1"].as_slice(),
+            ["--workers", "--help"].as_slice(),
+            ["--", "--help"].as_slice(),
             ["script"].as_slice(),
             ["help"].as_slice(),
             ["-"].as_slice(),

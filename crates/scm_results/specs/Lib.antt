@@ -1,2 +1,3 @@
 pub mod Totals
 pub mod TotalLaws
+pub mod Tallies

@@ -1,10 +1,20 @@
-//! The totals of tasks that were taken and of outcomes that were delivered.
+//! The totals of tasks that were taken and of outcomes that were delivered, and the shares of those that took and delivered.
 #![tactic(auto)]
 
 mod fate;
+mod limits;
+mod naming;
 mod results;
+mod tally;
+#[cfg(test)]
+mod tally_tests;
 #[cfg(test)]
 mod tests;
+mod totals;
 
 pub use fate::Fate;
+pub use limits::MOST_TALLIES;
+pub use naming::{Delivered, Naming, Taken, Token};
 pub use results::Results;
+pub use tally::Tally;
+pub use totals::Totals;

@@ -1,6 +1,6 @@
 -- A script run goes on by a line, and ends.
 use Rattle.std.proofs.Common.{◌≡◌, ℕ, List, [], ◌∷◌, ◌++◌, refl, sym, ap, ◌∙◌, subst, inl, inr, Option, None, Some, append_assoc, append-nil}
-use Rattle.std.proofs.KnownBytes.{Consumes-nil, Consumes-trans, Consumes-kept, Appends-nil, Appends-trans, prepend_known-nil}
+use Rattle.std.proofs.KnownBytes.{Consumes-nil, Consumes-trans, Consumes-kept, Appends-nil, Appends-kept, Appends-trans, prepend_known-nil}
 use Rattle.std.specs.Io.KnownBytes.{Consumes, Appends, Keeps, IsAtEnd, prepend_known}
 use Rattle.scm_sessions.specs.declared.reading.Cut.TheVariants.{Whole, Last}
 use Rattle.scm_sessions.specs.Lines.{Line, whole_lines_of, HasNoFeed}
@@ -9,7 +9,7 @@ use Rattle.scm_sessions.specs.Ports.{AppendsPart}
 use Rattle.scm_sessions.specs.Reading.{TakesLine}
 use Rattle.scm_sessions.specs.Script.{ScriptState, AnswersLine, IsScriptRun, RunsWhole, RunsWholeLines, RunsPart}
 use Rattle.scm_sessions.proofs.Cutting.{AreLines, AreLines-nil, AreLines-more, lines_of-end, lines_of-last, whole_lines_of-part}
-use Rattle.scm_sessions.proofs.Sent.{AppendsPart-after}
+use Rattle.scm_sessions.proofs.Sent.{AppendsPart-after, AppendsPart-all}
 
 -- a run goes on by one line
 pub IsScriptRun-more : (old : ScriptState) (lines : List Line) (text : List ℕ) (mid : ScriptState) (line : Line) (first : List ℕ) (new : ScriptState)
@@ -48,6 +48,19 @@ HasRun-start unread script written old none = record {
   are = AreLines-nil;
   wrote = Appends-nil written;
   run = (refl, refl);
+}
+
+-- the writer was asked to pass on what it holds
+pub HasRun-kept : {script left written after : Option (List ℕ)} {old new : ScriptState}
+    → HasRun script left written after old new → (later : Option (List ℕ)) → Keeps after later → HasRun script left written later old new
+HasRun-kept {script} {left} {written} {after} {old} {new} had later kept = record {
+  bytes = had.bytes;
+  lines = had.lines;
+  text = had.text;
+  read = had.read;
+  are = had.are;
+  wrote = Appends-kept written after later had.text had.wrote kept;
+  run = had.run;
 }
 
 -- one more whole line
@@ -130,6 +143,21 @@ read_ahead : (unread : List ℕ) (script left : Option (List ℕ)) (bytes : List
 read_ahead unread None left bytes read = tt
 read_ahead unread (Some xs) None bytes read = absurd read
 read_ahead unread (Some xs) (Some ys) bytes read = read ∙ sym (append_assoc bytes unread ys)
+
+-- the writer failed to pass on what it holds
+pub RunsPart-held : {script written after : Option (List ℕ)} {old new : ScriptState} (unread : List ℕ) (rest later : Option (List ℕ))
+    → HasRun script (prepend_known unread rest) written after old new → Keeps after later → RunsPart script rest written later old
+RunsPart-held {script} {written} {after} {old} {new} unread rest later had kept = record {
+  bytes = had.bytes ++ unread;
+  lines = had.lines;
+  others = whole_lines_of unread;
+  text = had.text;
+  new = new;
+  consumed = read_ahead unread script rest had.bytes had.read;
+  read = inl (had.are.whole unread);
+  appended = AppendsPart-all written after later had.text had.wrote kept;
+  run = had.run;
+}
 
 -- a write failed at the reply to a whole line
 pub RunsPart-whole : {script left written after : Option (List ℕ)} {old mid : ScriptState} (unread : List ℕ) (rest later : Option (List ℕ)) (line : Line)

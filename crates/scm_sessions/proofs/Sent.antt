@@ -1,5 +1,5 @@
 -- What is sent in parts is sent whole.
-use Rattle.std.proofs.Common.{◌≡◌, ℕ, ◌+◌, ◌-◌, List, [], ◌++◌, length, take, drop, refl, sym, ap, ◌∙◌, subst, Option, Bool, true, false, append_assoc, take-append-drop, ◌<◌, ◌∷◌, get_or, flat_map}
+use Rattle.std.proofs.Common.{◌≡◌, ℕ, ◌+◌, ◌-◌, List, [], ◌++◌, length, take, drop, refl, sym, ap, ◌∙◌, subst, Option, Bool, true, false, append_assoc, append-nil, take-append-drop, ◌<◌, ◌∷◌, get_or, flat_map}
 use Rattle.std.proofs.lemmas.List.{take_rest, take_more, flat_map_more}
 use Rattle.std.proofs.Math.Seq.{take-add}
 use Rattle.std.proofs.KnownBytes.{Appends-trans, Appends-kept, Keeps-trans}
@@ -38,6 +38,15 @@ AppendsPart-taken a b c xs i before kept = record {
   rest = drop i xs;
   is_text = sym (take-append-drop i xs);
   appended = Appends-kept a b c (take i xs) before kept;
+}
+
+-- a text went out whole, and then nothing
+pub AppendsPart-all : (a b c : Option (List ℕ)) (s : List ℕ) → Appends a b s → Keeps b c → AppendsPart a c s
+AppendsPart-all a b c s whole kept = record {
+  front = s;
+  rest = [];
+  is_text = sym (append-nil s);
+  appended = Appends-kept a b c s whole kept;
 }
 
 -- one more piece, where no call before it had failed

@@ -37,6 +37,10 @@ whole_pieces_of (b ∷ bytes) = if b == 10 then [] ∷ whole_pieces_of bytes els
 abbrev pub line_of : List ℕ → Line
 line_of piece = if nat_lt LONGEST_LINE (length piece) then too_long else text (strip_last 13 piece)
 
+-- a line's text as it stands, without line feed and carriage return: one that is longer than a line's is no line's
+abbrev pub line_of_text : List ℕ → Line
+line_of_text bytes = if nat_lt LONGEST_LINE (length bytes) then too_long else text bytes
+
 -- all lines of a script
 abbrev pub lines_of : List ℕ → List Line
 lines_of bytes = map line_of (pieces_of bytes)

@@ -13,7 +13,7 @@ use Rattle.scm_sessions.specs.Ports.{inner_of, reads_of}
 
 -- the bytes that were read and not yet handed out
 abbrev pub unread_of : LineReader → List ℕ
-unread_of lines = drop lines.start (take lines.end lines.chunk)
+unread_of lines = drop lines.start (take lines.end lines.chunk.items)
 
 -- the bytes that are left of the script, where they are known
 abbrev pub left_of : {R : Type 0} → (R → Option (List ℕ)) → LineReader → Port R → Option (List ℕ)

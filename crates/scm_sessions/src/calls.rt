@@ -2,7 +2,7 @@
 ghost use Rattle.std.specs.Prelude.{◌≡◌, ◌≢◌, ◌⊎◌, ℕ, List, None, Some, map, option_map, IfOk, IfErr, IsTrue, ◌↔◌};
 ghost use Rattle.scm_sequences.specs.declared.refusal.Refusal.TheVariants.{BadLine, NoMemory};
 ghost use Rattle.scm_book.specs.Calls.{CallData, call_data};
-ghost use Rattle.scm_sessions.specs.Lines.{text};
+ghost use Rattle.scm_sessions.specs.Lines.{line_of_text, text};
 ghost use Rattle.scm_sessions.specs.Asking.{nothing, good, asked_by, is_comment as is_comment_text, open_of_words, report_of_words, claim_of_words, release_of_words, back_of_words, raise_of_words, show_of_words, mark_of_words, close_of_words, ask_of_words, why_of_words, list_of_words, call_of, call_of_words};
 
 use crate::arguments::{read_name_alone, read_name_and_count, read_name_and_mark};
@@ -12,7 +12,7 @@ use crate::words::{first_word, words};
 use scm_book::Call;
 use scm_cells::{Name, read_count};
 use scm_lowering::read_access;
-use scm_sequences::Refusal;
+use scm_sequences::{LONGEST_LINE, Refusal};
 use std::alloc::Global;
 
 /// `T procs budget DECL ..`
@@ -189,9 +189,8 @@ pub(crate) fn asks_nothing(line: &[u8]) -> bool
     is_comment(line) || first_word(line).is_none()
 }
 
-/// The session's name and the call of a line's text: the line without its line feed and the carriage return before it,
-/// at most `LONGEST_LINE` bytes. Refused `BadLine` where the line asks for no call, or `NoMemory`.
-pub fn read_line(alloc: Global, line: &[u8]) -> Result<(Name, Call), Refusal>
+/// The session's name and the call of a text, however long. Refused `BadLine` where it asks for no call, or `NoMemory`.
+pub(crate) fn read_text(alloc: Global, line: &[u8]) -> Result<(Name, Call), Refusal>
     ensures ok { IfOk result (λ asked. asked_by (text line.now) ≡ good asked.0 (call_data asked.1)) }
     ensures err { IfErr result (λ refusal.
         ((refusal ≡ BadLine) × ((name : List ℕ) (call : CallData) → asked_by (text line.now) ≢ good name call))
@@ -208,6 +207,20 @@ pub fn read_line(alloc: Global, line: &[u8]) -> Result<(Name, Call), Refusal>
         return Err(Refusal::BadLine);
     };
     Ok((name, read_call(alloc, command)?))
+}
+
+/// The session's name and the call of a line's text: the line without its line feed and the carriage return before it.
+/// Refused `BadLine` where the text is longer than `LONGEST_LINE` bytes or asks for no call, or `NoMemory`.
+pub fn read_line(alloc: Global, line: &[u8]) -> Result<(Name, Call), Refusal>
+    ensures ok { IfOk result (λ asked. asked_by (line_of_text line.now) ≡ good asked.0 (call_data asked.1)) }
+    ensures err { IfErr result (λ refusal.
+        ((refusal ≡ BadLine) × ((name : List ℕ) (call : CallData) → asked_by (line_of_text line.now) ≢ good name call))
+        ⊎ (refusal ≡ NoMemory)) }
+{
+    if line.len() > LONGEST_LINE {
+        return Err(Refusal::BadLine);
+    }
+    read_text(alloc, line)
 }
 
 #[cfg(test)]

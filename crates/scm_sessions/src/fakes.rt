@@ -11,8 +11,9 @@ pub(crate) struct Wire {
     pub(crate) writes: Cell<usize>,
     lines_given: Cell<usize>,
     replies_written: Cell<usize>,
-    replies_flushed: Cell<usize>,
-    /// Whether the reader was asked while the reply to a line that it had given was not flushed.
+    pub(crate) replies_flushed: Cell<usize>,
+    /// Whether the reader was asked while the reply to a line that it had given was not flushed, as it isn't once the
+    /// writer failed.
     pub(crate) is_late: Cell<bool>,
 }
 
@@ -67,7 +68,7 @@ impl Read for StepReader<'_> {
     }
 }
 
-/// Takes at most `step` bytes at each write, and fails once it took `limit`.
+/// Takes at most `step` bytes at each write, and fails once it took `limit`, at a flush too.
 #[derive(Drop)]
 pub(crate) struct StepWriter<'a> {
     pub(crate) taken: Vec<u8>,
@@ -91,6 +92,9 @@ impl Write for StepWriter<'_> {
     }
 
     fn flush(&mut self) -> io::Result<()> {
+        if self.limit == 0 {
+            return Err(ErrorKind::Other.into());
+        }
         self.wire
             .replies_flushed
             .set(self.wire.replies_written.get());

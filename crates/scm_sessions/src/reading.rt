@@ -1,5 +1,5 @@
 //! The lines of a script, one at a time.
-ghost use Rattle.std.specs.Prelude.{◌≡◌, ◌≤◌, length, vec_capacity};
+ghost use Rattle.std.specs.Prelude.{◌≡◌, ◌≤◌, length, vec_capacity, vec_len};
 ghost use Rattle.scm_sequences.specs.declared.limits.TheConstants.{LONGEST_LINE};
 ghost use Rattle.scm_sessions.specs.declared.reading.TheConstants.{CHUNK};
 
@@ -9,7 +9,7 @@ use std::alloc::Global;
 use std::io::Read;
 
 /// How many bytes one read asks for.
-const CHUNK: usize = 512;
+const CHUNK: usize = 65_536;
 
 /// How a line was cut off.
 #[derive(Clone, Copy, Debug, PartialEq, Eq)]
@@ -25,13 +25,14 @@ pub(crate) enum Cut {
 /// Reads a script line by line. It holds one line and what one read gave.
 #[derive(Drop)]
 pub(crate) struct LineReader {
-    chunk: [u8; CHUNK],
+    chunk: Vec<u8>,
     start: usize,
     end: usize,
     line: Vec<u8>,
     is_long: bool,
     ghost ordered: { start ≤ end },
-    ghost within: { end ≤ CHUNK },
+    ghost within: { end ≤ vec_len chunk },
+    ghost whole: { vec_len chunk ≡ CHUNK },
     ghost room: { LONGEST_LINE ≤ vec_capacity line },
 }
 
@@ -47,12 +48,17 @@ impl LineReader {
         ensures { IfOk result (λ lines. unread_of lines ≡ []) }
     {
         Ok(LineReader {
-            chunk: [0; CHUNK],
+            chunk: vec![in alloc; 0; CHUNK]?,
             start: 0,
             end: 0,
             line: Vec::with_capacity(alloc, LONGEST_LINE)?,
             is_long: false,
         })
+    }
+
+    /// Whether the next line can be taken up to its line feed without a read.
+    pub(crate) fn holds_line(&self) -> bool {
+        self.chunk[self.start..self.end].contains(&b'\n')
     }
 
     /// The next byte of the script, or `None` at its end. Asks the port only where no byte is left of its last read.

@@ -94,10 +94,8 @@ impl<W: Write> Port<W> {
     }
 }
 
-/// Writes the line of a reply under the name of its session, or under `?`, and flushes. Takes no memory.
-///
-/// Fails with `WriteFailed` where the writer fails, which has a beginning of the line then.
-pub fn write_reply<W: Write>(
+/// Hands the line of a reply to the writer, under the name of its session or under `?`. Takes no memory.
+pub(crate) fn send_reply<W: Write>(
     writer: &mut Port<W>,
     name: Option<&Name>,
     reply: &Reply,
@@ -113,6 +111,25 @@ pub fn write_reply<W: Write>(
     if writer.failed() {
         return Err(RunFault::WriteFailed);
     }
+    Ok(())
+}
+
+/// Writes the line of a reply under the name of its session, or under `?`, and flushes. Takes no memory.
+///
+/// Fails with `WriteFailed` where the writer fails, which has a beginning of the line then.
+pub fn write_reply<W: Write>(
+    writer: &mut Port<W>,
+    name: Option<&Name>,
+    reply: &Reply,
+) -> Result<(), RunFault>
+    requires { has_failed writer.old ≡ false }
+    ensures bytes { Writes (W.contents (inner_of writer.old)) (W.contents (inner_of writer.new)) result
+        (reply_line (option_copied name.entry) (reply_data reply.now)) }
+    ensures fault { IfErr result (λ fault. fault ≡ RunFault.WriteFailed) }
+    ensures failed { has_failed writer.new ≡ is_err result }
+    ensures reads { reads_of writer.new ≡ reads_of writer.old }
+{
+    send_reply(writer, name, reply)?;
     writer.flush()?;
     Ok(())
 }

@@ -1,5 +1,6 @@
 //! The run of a script, from bytes to bytes.
 ghost use Rattle.std.specs.Prelude.{◌≡◌, ◌≢◌, ◌↔◌, ℕ, List, [], true, false, is_err, IfOk, IfErr, OnOk, IsErrOf, option_copied};
+ghost use Rattle.std.specs.Io.KnownBytes.{Keeps};
 ghost use Rattle.scm_sessions.specs.Lines.{line_given};
 ghost use Rattle.scm_sessions.specs.Asking.{asked_by};
 ghost use Rattle.scm_sessions.specs.Ports.{inner_of, has_failed, Writes};
@@ -10,14 +11,15 @@ ghost use Rattle.scm_sessions.specs.Script.{script_state, AnswersLine, RunsWhole
 
 use crate::reading::{Cut, LineReader};
 use crate::sessions::Sessions;
-use crate::{Port, RunFault, write_reply};
+use crate::replies::send_reply;
+use crate::{Port, RunFault};
 use scm_book::Book;
 use scm_cells::Name;
 use scm_sequences::MOST_SESSIONS;
 use std::alloc::Global;
 use std::io::{Read, Write};
 
-/// Answers a line, and writes and flushes the reply where it has one; `None` stands for a line that is too long.
+/// Answers a line, and hands the reply to the writer where it has one; `None` stands for a line that is too long.
 fn answer_line<W: Write>(
     alloc: Global,
     sessions: &mut Sessions,
@@ -32,9 +34,23 @@ fn answer_line<W: Write>(
     ensures failed { has_failed writer.new ≡ is_err result }
 {
     match sessions.answer(alloc, line) {
-        Some(answer) => write_reply(writer, answer.name.as_ref(), &answer.reply),
+        Some(answer) => send_reply(writer, answer.name.as_ref(), &answer.reply),
         None => Ok(()),
     }
+}
+
+/// Flushes the replies where the next line can't be taken without a read, so that none is held back while bytes are
+/// awaited.
+fn flush_before_read<W: Write>(lines: &LineReader, writer: &mut Port<W>) -> Result<(), RunFault>
+    requires { has_failed writer.old ≡ false }
+    ensures bytes { Keeps (W.contents (inner_of writer.old)) (W.contents (inner_of writer.new)) }
+    ensures fault { IfErr result (λ fault. fault ≡ RunFault.WriteFailed) }
+    ensures failed { has_failed writer.new ≡ is_err result }
+{
+    if !lines.holds_line() {
+        writer.flush()?;
+    }
+    Ok(())
 }
 
 /// Answers each line of the script that is left, up to a fault.
@@ -61,10 +77,12 @@ fn run_lines<R: Read, W: Write>(
     ensures memory { IfErr result (λ fault. fault ≢ RunFault.NoMemory) }
 {
     'each: loop {
+        flush_before_read(lines, writer)?;
         match lines.next_line(reader)? {
             Cut::Whole => answer_line(alloc, sessions, lines.line(), writer)?,
             Cut::Last => {
                 answer_line(alloc, sessions, lines.line(), writer)?;
+                writer.flush()?;
                 return Ok(());
             }
             Cut::End => return Ok(()),
@@ -75,7 +93,8 @@ fn run_lines<R: Read, W: Write>(
 /// Runs a script: answers each of its lines over this book, and gives back the book and the names of the sessions, a
 /// name's place being the number of its session.
 ///
-/// Each reply is written and flushed before more bytes are asked for, as far as whole lines were read. The run ends
+/// Each reply is written and flushed before more bytes are asked for, as far as whole lines were read, and no sooner: the
+/// replies to the lines that one read brought go out together. The run ends
 /// early where the reader or the writer fails. It fails with `NoMemory` before the first read alone; a line for which
 /// memory is refused later is answered so, and the run goes on.
 pub fn run_script<R: Read, W: Write>(

@@ -9,7 +9,7 @@ ghost use Rattle.scm_sessions.specs.Asking.{nothing, asked_by, name_in};
 ghost use Rattle.scm_sessions.specs.Replies.{reply_line, answer_text};
 ghost use Rattle.scm_sessions.specs.Script.{script_state, session_of, with_name, is_turned_away, AnswersCall, AnswersLine};
 
-use crate::calls::{asks_nothing, read_line};
+use crate::calls::{asks_nothing, read_text};
 use crate::replies::Answer;
 use crate::words::line_name;
 use indexmap::IndexSet;
@@ -91,7 +91,7 @@ impl Sessions {
         ensures { AnswersLine self.old (asked_by (text line.now))
             (reply_line (name_in (asked_by (text line.now))) (reply_data result)) self.new }
     {
-        match read_line(alloc, line) {
+        match read_text(alloc, line) {
             Ok((name, call)) => self.call(name, call),
             Err(refusal) => Reply::Refused(refusal),
         }

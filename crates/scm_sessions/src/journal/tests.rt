@@ -38,8 +38,10 @@ fn a_run_has_its_journal(rt: HostRuntime) -> Result<(), Fail> {
     let mut writer = port_of(rt.alloc(), &wire, usize::MAX);
     assert_eq!(rt; write_journal(&mut writer, &book, &names), Ok(()));
     assert_eq!(rt; writer.into_inner().taken.as_slice(), JOURNAL.as_bytes());
+    // the wire counts the lines of the replies and those of the journal
+    assert_eq!(rt; wire.replies_flushed.get(), 11);
 
-    for limit in 0..JOURNAL.len() {
+    for limit in 0..=JOURNAL.len() {
         let mut writer = port_of(rt.alloc(), &wire, limit);
         let failed = write_journal(&mut writer, &book, &names);
         assert_eq!(rt; failed, Err(RunFault::WriteFailed), "at {limit}");

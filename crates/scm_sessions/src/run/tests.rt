@@ -1,5 +1,6 @@
 use super::*;
 use crate::fakes::{StepReader, StepWriter, Wire};
+use scm_sequences::LONGEST_LINE;
 use std::test::Fail;
 
 const MESSAGE: &str = "a open t 2 100 x:w=0\n\
@@ -11,6 +12,57 @@ const MESSAGE: &str = "a open t 2 100 x:w=0\n\
     a ask t\n";
 
 const REPLIES: &str = "a ok\na ok\nb ok\nb ok\na inconsistent\na ok\na consistent 2 0 1\n";
+
+/// Lines that each have a reply, of every kind, with bad lines among them and after the last session entered.
+const ALL_KINDS: &str = "a open t 1 2 x:w=0\n\
+    A list\n\
+    a fly t\n\
+    a claim t 0\n\
+    a claim t 0\n\
+    a do t 0 sw x 1\n\
+    a mark t\n\
+    a ask t\n\
+    a do t 0 lw x 2\n\
+    a ask t\n\
+    ! 0\n\
+    a why t\n\
+    a do t 0 sw x 3\n\
+    a back t 1\n\
+    a show t 0\n\
+    a list\n\
+    a open u 1 1 y:w=0\n\
+    a claim u 0\n\
+    a do u 0 sw y 1\n\
+    a do u 0 lw y 2\n\
+    a ask u\n\
+    a close t\n";
+
+/// The replies to `ALL_KINDS`.
+const ALL_REPLIES: &str = "a ok\n\
+    ? refused 1 bad-line\n\
+    a refused 1 bad-line\n\
+    a ok\n\
+    a refused 7 process-taken\n\
+    a ok\n\
+    a ok 0\n\
+    a consistent 1 0\n\
+    a ok\n\
+    a inconsistent\n\
+    ? refused 1 bad-line\n\
+    a because 2 0/0 1/1\n\
+    a ok\n\
+    a refused 14 no-such-mark\n\
+    a ops 3 W x 1 R x 2 W x 3\n\
+    a traces 1 t\n\
+    a ok\n\
+    a ok\n\
+    a ok\n\
+    a ok\n\
+    a undecided\n\
+    a ok\n";
+
+/// How many lines `many_reads` gives, more than two 16-bit counts can hold.
+const MANY: usize = 140_000;
 
 /// How a script ran: its fault, what was written, and whether a reply came late.
 #[derive(Drop)]
@@ -58,13 +110,30 @@ fn replies_to<'a>(script: &[u8], replies: &'a [u8]) -> &'a [u8] {
 }
 
 #[test]
-fn message_passing(rt: HostRuntime) {
-    for step in [1, 3, 4096] {
-        let ran = run_of(rt.alloc(), MESSAGE.as_bytes(), step, usize::MAX, usize::MAX);
-        assert_eq!(rt; ran.fault, None);
-        assert_eq!(rt; ran.written.as_slice(), REPLIES.as_bytes(), "at {step}");
-        assert!(rt; !ran.is_late, "a reply came late at {step}");
+fn replies_are_written_before_more_is_read(rt: HostRuntime) {
+    let table = [(MESSAGE, REPLIES), (ALL_KINDS, ALL_REPLIES)];
+    for (script, replies) in table {
+        for step in [1, 3, 4096] {
+            let ran = run_of(rt.alloc(), script.as_bytes(), step, usize::MAX, usize::MAX);
+            assert_eq!(rt; ran.fault, None);
+            assert_eq!(rt; ran.written.as_slice(), replies.as_bytes(), "at {step}");
+            assert!(rt; !ran.is_late, "a reply came late at {step}");
+        }
     }
+}
+
+// Each line is a read of its own, and its reply is flushed before the next one.
+#[test]
+fn many_reads(rt: HostRuntime) -> Result<(), Fail> {
+    let mut script = Vec::new(rt.alloc());
+    for _ in 0..MANY {
+        script.extend_from_slice(b"A\n")?;
+    }
+    let ran = run_of(rt.alloc(), &script, 2, usize::MAX, usize::MAX);
+    assert_eq!(rt; ran.fault, None);
+    assert!(rt; !ran.is_late);
+    assert_eq!(rt; ran.written.len(), MANY * b"? refused 1 bad-line\n".len());
+    Ok(())
 }
 
 #[test]
@@ -84,9 +153,10 @@ fn a_read_fault_ends_the_run(rt: HostRuntime) {
 fn a_write_fault_ends_the_run(rt: HostRuntime) {
     let replies = REPLIES.as_bytes();
     for step in [1, 3, 4096] {
-        for limit in 0..replies.len() {
+        for limit in 0..=replies.len() {
             let ran = run_of(rt.alloc(), MESSAGE.as_bytes(), step, usize::MAX, limit);
             assert_eq!(rt; ran.fault, Some(RunFault::WriteFailed));
+            assert!(rt; !ran.is_late, "read on at {step} and {limit}");
             assert_eq!(rt;
                 ran.written.as_slice(),
                 &replies[..limit],
@@ -100,7 +170,7 @@ fn a_write_fault_ends_the_run(rt: HostRuntime) {
 fn some_lines_are_bad_and_some_ask_for_nothing(rt: HostRuntime) -> Result<(), Fail> {
     let mut script = Vec::new(rt.alloc());
     script.extend_from_slice(b"# a comment\n\n \t\r\n\r\nA list\na fly t\n# \xff\n")?;
-    for _ in 0..4097u32 {
+    for _ in 0..=LONGEST_LINE {
         script.push(b'#')?;
     }
     script.extend_from_slice(b"\nb ask")?;

@@ -6,7 +6,7 @@ use Rattle.clap.specs.Faults.{fault_of, is_simple_and_free}
 use Rattle.clap.specs.Kinds.{HasKind, Kinds}
 use Rattle.clap.proofs.WalkLemmas.{one_text-rows}
 use Rattle.scm_monitor.specs.CommandLine.{asks_for_journal, command_line}
-use Rattle.scm_monitor.proofs.Parsing.{are_options, flag_text, help_fails, help_shown, reads_flag, takes_journal, takes_no_words}
+use Rattle.scm_monitor.proofs.Parsing.{are_options, flag_text, help_fails, help_shown, reads_flag, takes_journal, takes_no_words, version_fails, version_shown}
 use Rattle.scm_monitor.proofs.command_line.options.Goals as goal
 
 -- src/command_line.rt
@@ -46,12 +46,12 @@ returns-clause-options c =
 
 -- src/command_line.rt
 pub returns-in_err-matches-clause-help : goal.returns-in_err-matches-clause-help
-returns-in_err-matches-clause-help c = λ e.
+returns-in_err-matches-clause-help c = λ first.
     let words = map (λ w. w.now) c.args.words.now in
     let error = c.in_err-matches.field-0.0 in
     let app_is = c.in_ok-command.ensures.described in
     let one : HasKind (ErrorKind.DisplayHelp ∷ []) error = subst (λ (kinds : Kinds). HasKind kinds error)
-    (ap (λ (a : App). fault_of a words) app_is ∙ ap (fault_of command_line) e ∙ help_shown)
+    (ap (λ (a : App). fault_of a words) app_is ∙ help_shown words first)
     (c.in_err-matches.ensures.kinds (ap is_simple_and_free app_is)) in
     let kind_is : (kind_of error ≡ ErrorKind.DisplayHelp) ⊎ (kind_of error ≡ ErrorKind.OutOfMemory) = elim one [
       | inl memory ↦ inr memory
@@ -61,7 +61,29 @@ returns-in_err-matches-clause-help c = λ e.
 
 -- src/command_line.rt
 pub returns-clause-help : goal.returns-clause-help
-returns-clause-help c = λ e.
+returns-clause-help c = λ first.
     let words = map (λ w. w.now) c.args.words.now in
     let app_is = c.in_ok-command.ensures.described in
-    help_fails words e (ap (λ (a : App). fault_of a words) (sym app_is) ∙ c.in_ok-matches.ensures.kinds (ap is_simple_and_free app_is))
+    help_fails words first (ap (λ (a : App). fault_of a words) (sym app_is) ∙ c.in_ok-matches.ensures.kinds (ap is_simple_and_free app_is))
+
+-- src/command_line.rt
+pub returns-in_err-matches-clause-version : goal.returns-in_err-matches-clause-version
+returns-in_err-matches-clause-version c = λ first.
+    let words = map (λ w. w.now) c.args.words.now in
+    let error = c.in_err-matches.field-0.0 in
+    let app_is = c.in_ok-command.ensures.described in
+    let one : HasKind (ErrorKind.DisplayVersion ∷ []) error = subst (λ (kinds : Kinds). HasKind kinds error)
+    (ap (λ (a : App). fault_of a words) app_is ∙ version_shown words first)
+    (c.in_err-matches.ensures.kinds (ap is_simple_and_free app_is)) in
+    let kind_is : (kind_of error ≡ ErrorKind.DisplayVersion) ⊎ (kind_of error ≡ ErrorKind.OutOfMemory) = elim one [
+      | inl memory ↦ inr memory
+      | inr version ↦ elim version [ inl shown ↦ inl shown | inr none ↦ absurd none ]
+    ] in
+    search rules
+
+-- src/command_line.rt
+pub returns-clause-version : goal.returns-clause-version
+returns-clause-version c = λ first.
+    let words = map (λ w. w.now) c.args.words.now in
+    let app_is = c.in_ok-command.ensures.described in
+    version_fails words first (ap (λ (a : App). fault_of a words) (sym app_is) ∙ c.in_ok-matches.ensures.kinds (ap is_simple_and_free app_is))

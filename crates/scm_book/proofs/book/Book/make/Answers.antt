@@ -1,13 +1,14 @@
-use Rattle.std.proofs.Common.{◌≡◌, false, is_ok, refl, ap, ◌∙◌, ap₂, sym, subst}
+use Rattle.std.proofs.Common.{◌≡◌, ◌+◌, ◌-◌, false, is_ok, rules, refl, ap, ◌∙◌, ap₂, sym, subst}
 use Rattle.scm_sequences.specs.declared.refusal.Refusal.TheVariants.{JournalFull, NoMemory}
+use Rattle.scm_results.specs.Totals.{capped}
 use Rattle.scm_book.specs.Calls.{call_data, reply_data, refused}
 use Rattle.scm_book.specs.Changes.{tells_of_change}
 use Rattle.scm_book.specs.Journal.{BookState, IsCall, IsLegalHistory, entered}
 use Rattle.scm_book.specs.Sets.{machine_in, sets_in, LeavesSets}
 use Rattle.scm_book.specs.Steps.{IsStep}
 use Rattle.scm_book.proofs.Changing.{machine-kept}
-use Rattle.scm_book.proofs.Calling.{IsLegalHistory-more, IsLegalHistory-same, call-full, call-no_memory, call-no_entry, call-entered, step-from_entry, untold}
-use Rattle.scm_book.proofs.Leaving.{leaves_idle, leaves_uncopied}
+use Rattle.scm_book.proofs.Calling.{IsLegalHistory-more, IsLegalHistory-same, book_of, unreached-full, unreached-no_memory, call-no_memory, call-no_entry, call-entered, step-from_entry, untold, machine-no_entry, copies-of_entry}
+use Rattle.scm_book.proofs.Leaving.{leaves_idle, leaves_uncopied, leaves_counted}
 use Rattle.scm_book.proofs.book.Book.make.Goals as goal
 
 -- ---- refused before the machine was asked
@@ -20,8 +21,7 @@ returns-then-is_full-clause-sets c =
 pub returns-then-is_full-clause-called : goal.returns-then-is_full-clause-called
 returns-then-is_full-clause-called c =
     subst (λ (b : BookState). IsCall b c.args.session (call_data c.args.call) (refused JournalFull) b) c.self.view_is
-    (call-full (record { journal = c.self.inside.journal.entries; machine = machine_in c.self.inside.traces; sets = sets_in c.self.inside.traces; results = c.self.inside.results }) _ c.args.session (call_data c.args.call) c.args.steps.now c.args.steps.now
-    (sym c.if-is_full.ensures) (record { journal = refl; machine = refl }) refl refl (leaves_idle c.self.inside.traces (call_data c.args.call) JournalFull c.args.steps.now))
+    (unreached-full c.self.inside.traces c.self.inside.journal.entries c.self.inside.results c.self.inside.steps (search rules) c.args.session (call_data c.args.call) (sym c.if-is_full.ensures))
 
 pub returns-then-is_err-clause-sets : goal.returns-then-is_err-clause-sets
 returns-then-is_err-clause-sets c =
@@ -30,20 +30,31 @@ returns-then-is_err-clause-sets c =
 
 pub returns-then-is_err-clause-called : goal.returns-then-is_err-clause-called
 returns-then-is_err-clause-called c =
-    subst (λ (b : BookState). IsCall b c.args.session (call_data c.args.call) (refused NoMemory) (record { journal = c.make_room.new.self.entries; machine = machine_in c.self.inside.traces; sets = sets_in c.self.inside.traces; results = c.self.inside.results })) c.self.view_is
-    (call-no_memory (record { journal = c.self.inside.journal.entries; machine = machine_in c.self.inside.traces; sets = sets_in c.self.inside.traces; results = c.self.inside.results }) _ c.args.session (call_data c.args.call) c.args.steps.now c.args.steps.now
-    (sym c.if-is_full.ensures) (record { journal = c.make_room.ensures.entries; machine = refl }) refl (leaves_idle c.self.inside.traces (call_data c.args.call) NoMemory c.args.steps.now))
+    subst (λ (b : BookState). IsCall b c.args.session (call_data c.args.call) (refused NoMemory) (book_of c.self.inside.traces c.make_room.new.self.entries c.self.inside.results c.self.inside.steps)) c.self.view_is
+    (unreached-no_memory c.self.inside.traces c.self.inside.journal.entries c.self.inside.results c.self.inside.steps (search rules) c.args.session (call_data c.args.call) _ (sym c.if-is_full.ensures) c.make_room.ensures.entries)
 
 -- ---- answered
 
 pub returns-then-not-makes_entry-clause-called : goal.returns-then-not-makes_entry-clause-called
 returns-then-not-makes_entry-clause-called c =
-    subst (λ (b : BookState). IsCall b c.args.session (call_data c.args.call) (reply_data c.call-reply.result) (record { journal = c.make_room.new.self.entries; machine = machine_in c.call-reply.new.self; sets = sets_in c.call-reply.new.self; results = c.self.inside.results })) c.self.view_is
-    (call-no_entry (record { journal = c.self.inside.journal.entries; machine = machine_in c.self.inside.traces; sets = sets_in c.self.inside.traces; results = c.self.inside.results }) _ c.args.session (call_data c.args.call) (reply_data c.call-reply.result) _ _
-    (sym c.if-is_full.ensures) c.call-reply.ensures.step (sym c.if-not-makes_entry.ensures) c.make_room.ensures.entries refl c.call-reply.ensures.sets)
+    subst (λ (b : BookState). IsCall b c.args.session (call_data c.args.call) (reply_data c.call-reply.result) (book_of c.call-reply.new.self c.make_room.new.self.entries c.self.inside.results c.saturating_add-self-inside.result)) c.self.view_is
+    (call-no_entry (book_of c.self.inside.traces c.self.inside.journal.entries c.self.inside.results c.self.inside.steps) _ c.args.session (call_data c.args.call) _ (c.saturating_add-self-inside.ensures ∙ ap₂ (λ a b. capped (c.self.inside.steps + (a - b))) c.made.ensures c.made-before.ensures) (reply_data c.call-reply.result)
+    (sym c.if-is_full.ensures) refl (leaves_counted _ _ _ (call_data c.args.call) (reply_data c.call-reply.result) _ _ c.call-reply.ensures.sets).1 c.call-reply.ensures.step (sym c.if-not-makes_entry.ensures) c.make_room.ensures.entries)
+
+none_entered : (c : goal.Joined-call-3) → machine_in c.call-reply.new.self ≡ machine_in c.self.inside.traces
+none_entered c = machine-no_entry _ _ c.args.session (call_data c.args.call) (reply_data c.call-reply.result) c.call-reply.ensures.step (sym c.if-not-makes_entry.ensures)
+
+pub invariant_of-self-then-not-makes_entry : goal.invariant_of-self-then-not-makes_entry
+invariant_of-self-then-not-makes_entry c = IsLegalHistory-same _ _ _ _ c.make_room.ensures.entries (none_entered c) c.self.invariant
+
+pub returns-then-not-makes_entry-clause-legal : goal.returns-then-not-makes_entry-clause-legal
+returns-then-not-makes_entry-clause-legal c = IsLegalHistory-same _ _ _ _ c.make_room.ensures.entries (none_entered c) c.self.invariant
+
+pub returns-then-not-makes_entry-clause-machine : goal.returns-then-not-makes_entry-clause-machine
+returns-then-not-makes_entry-clause-machine c = λ _. none_entered c ∙ ap (λ (b : BookState). b.machine) c.self.view_is
 
 still : (c : goal.Joined-call-4) → tells_of_change (reply_data c.call-reply.result) ≡ false
-still c = untold (reply_data c.call-reply.result) (is_ok c.copy.result) c.copy.ensures.light (ap is_ok c.in_default.is)
+still c = untold (reply_data c.call-reply.result) (is_ok c.copies.result) c.copies.ensures.light (ap is_ok c.in_default.is)
 
 kept : (c : goal.Joined-call-4) → machine_in c.call-reply.new.self ≡ machine_in c.self.inside.traces
 kept c = machine-kept _ _ c.args.session (call_data c.args.call) (reply_data c.call-reply.result) c.call-reply.ensures.step (still c)
@@ -60,20 +71,20 @@ returns-in_default-clause-sets c =
 
 pub returns-in_default-clause-called : goal.returns-in_default-clause-called
 returns-in_default-clause-called c =
-    subst (λ (b : BookState). IsCall b c.args.session (call_data c.args.call) (refused NoMemory) (record { journal = c.make_room.new.self.entries; machine = machine_in c.call-reply.new.self; sets = sets_in c.call-reply.new.self; results = c.self.inside.results })) c.self.view_is
-    (call-no_memory (record { journal = c.self.inside.journal.entries; machine = machine_in c.self.inside.traces; sets = sets_in c.self.inside.traces; results = c.self.inside.results }) _ c.args.session (call_data c.args.call) _ _
-    (sym c.if-is_full.ensures) (record { journal = c.make_room.ensures.entries; machine = kept c }) refl (uncopied c))
+    subst (λ (b : BookState). IsCall b c.args.session (call_data c.args.call) (refused NoMemory) (book_of c.call-reply.new.self c.make_room.new.self.entries c.self.inside.results c.saturating_add-self-inside.result)) c.self.view_is
+    (call-no_memory (book_of c.self.inside.traces c.self.inside.journal.entries c.self.inside.results c.self.inside.steps) _ c.args.session (call_data c.args.call) _ (c.saturating_add-self-inside.ensures ∙ ap₂ (λ a b. capped (c.self.inside.steps + (a - b))) c.made.ensures c.made-before.ensures)
+    (sym c.if-is_full.ensures) (record { journal = c.make_room.ensures.entries; machine = kept c }) refl (leaves_counted _ _ _ (call_data c.args.call) (refused NoMemory) _ _ (uncopied c)).1)
 
 pub returns-in_default-clause-legal : goal.returns-in_default-clause-legal
 returns-in_default-clause-legal c = IsLegalHistory-same _ _ _ _ c.make_room.ensures.entries (kept c) c.self.invariant
 
-pub returns-in_default-clause-kept : goal.returns-in_default-clause-kept
-returns-in_default-clause-kept c = λ _. kept c ∙ ap (λ (b : BookState). b.machine) c.self.view_is
+pub returns-in_default-clause-machine : goal.returns-in_default-clause-machine
+returns-in_default-clause-machine c = λ _. kept c ∙ ap (λ (b : BookState). b.machine) c.self.view_is
 
 -- ---- entered
 
 entered_as : (c : goal.After-enter) → c.enter.new.self.entries ≡ entered c.self.inside.journal.entries c.args.session (call_data c.args.call) (reply_data c.call-reply.result)
-entered_as c = c.enter.ensures ∙ ap₂ (λ entries r. entered entries c.args.session (call_data c.args.call) r) c.make_room.ensures.entries c.in-Ok.ensures.copy
+entered_as c = c.enter.ensures ∙ ap₂ (λ entries r. entered entries c.args.session (call_data c.args.call) r) c.make_room.ensures.entries c.in-Ok.ensures.entered
 
 step : (c : goal.After-enter) → IsStep (machine_in c.self.inside.traces) c.args.session (call_data c.args.call) (reply_data c.call-reply.result) (machine_in c.call-reply.new.self)
 step c = step-from_entry (machine_in c.self.inside.traces) (machine_in c.call-reply.new.self) c.args.session (call_data c.args.call) (reply_data c.call-reply.result) c.call-reply.ensures.step (sym c.if-not-makes_entry.ensures)
@@ -89,13 +100,16 @@ invariant_of-self-2 c = entered_history c
 pub returns-clause-legal : goal.returns-clause-legal
 returns-clause-legal c = entered_history c
 
-pub returns-clause-kept : goal.returns-clause-kept
-returns-clause-kept c = λ told.
+pub returns-clause-machine : goal.returns-clause-machine
+returns-clause-machine c = λ told.
     machine-kept (machine_in c.self.inside.traces) (machine_in c.call-reply.new.self) c.args.session (call_data c.args.call) (reply_data c.call-reply.result) c.call-reply.ensures.step told
     ∙ ap (λ (b : BookState). b.machine) c.self.view_is
 
 pub returns-clause-called : goal.returns-clause-called
 returns-clause-called c =
-    subst (λ (b : BookState). IsCall b c.args.session (call_data c.args.call) (reply_data c.call-reply.result) (record { journal = c.enter.new.self.entries; machine = machine_in c.call-reply.new.self; sets = sets_in c.call-reply.new.self; results = c.self.inside.results })) c.self.view_is
-    (call-entered (record { journal = c.self.inside.journal.entries; machine = machine_in c.self.inside.traces; sets = sets_in c.self.inside.traces; results = c.self.inside.results }) _ c.args.session (call_data c.args.call) (reply_data c.call-reply.result) _ _
-    (sym c.if-is_full.ensures) (sym c.if-not-makes_entry.ensures) (step c) (entered_as c) refl c.call-reply.ensures.sets)
+    subst (λ (b : BookState). IsCall b c.args.session (call_data c.args.call) (reply_data c.call-reply.result) (book_of c.call-reply.new.self c.enter.new.self.entries c.self.inside.results c.saturating_add-self-inside.result)) c.self.view_is
+    (call-entered (book_of c.self.inside.traces c.self.inside.journal.entries c.self.inside.results c.self.inside.steps) _ c.args.session (call_data c.args.call) _ (c.saturating_add-self-inside.ensures ∙ ap₂ (λ a b. capped (c.self.inside.steps + (a - b))) c.made.ensures c.made-before.ensures) (reply_data c.call-reply.result)
+    (sym c.if-is_full.ensures) refl (leaves_counted _ _ _ (call_data c.args.call) (reply_data c.call-reply.result) _ _ c.call-reply.ensures.sets).1 (sym c.if-not-makes_entry.ensures) (step c) (entered_as c))
+
+pub returns-clause-kept : goal.returns-clause-kept
+returns-clause-kept c = copies-of_entry c.args.copy _ (reply_data c.call-reply.result) c.in-Ok.ensures.kept (sym c.if-not-makes_entry.ensures)

@@ -1,0 +1,6 @@
+pub mod Sums
+pub mod Prefixes
+pub mod Fitting
+pub mod Seating
+pub mod Passing
+pub mod Moves

@@ -1,0 +1,57 @@
+-- What a call adds to what its pass knows.
+use Rattle.std.proofs.Common.{◌≡◌, ℕ, ◌+◌, ◌-◌, ◌<◌, List, [], ◌∷◌, ◌++◌, length, map, get_or, refl, sym, ap, ◌∙◌, subst, arith, length-append}
+use Rattle.std.proofs.lemmas.List.{map-append, length-map}
+use Rattle.std.proofs.Math.ListN.{get_or-map}
+use Rattle.std.proofs.Math.Seq.{get_or-append_seam}
+use Rattle.scm_book.specs.declared.entry.Entry.{Entry}
+use Rattle.scm_book.specs.declared.call.Call.{Call}
+use Rattle.scm_book.specs.declared.reply.Reply.{Reply}
+use Rattle.scm_book.specs.Calls.{CallData, ReplyData, EntryData, call_data, reply_data, entry_data}
+use Rattle.scm_book.specs.Machine.{Machine}
+use Rattle.scm_book.specs.Journal.{entered, IsLegalHistory}
+use Rattle.scm_book.specs.Callers.{calls_by, pair_data, IsHistory}
+use Rattle.scm_book.specs.CallerLaws.{calls_by-entry_own}
+use Rattle.scm_shared.specs.Passes.{Known, known, Extended}
+use Rattle.scm_shared.specs.Rule.{Fits}
+
+-- a pass that fitted the journal makes a call, and has seen the journal with it
+pub extended : (old : Known) (log now : List EntryData) (machine : Machine) (call : CallData) (reply : ReplyData) (number : ℕ) (made : List (CallData × ReplyData)) (seen : List EntryData) (front : ℕ)
+    → Fits log old → now ≡ entered log old.number call reply → IsLegalHistory now machine
+    → number ≡ old.number → made ≡ old.made ++ (call, reply) ∷ [] → seen ≡ now → front ≡ length now
+    → Extended old call reply (known number made seen front)
+extended old log now machine call reply number made seen front fit is legal same one_more all long =
+    let b = fit.begins in
+    let told = fit.front in
+    let grown : length now ≡ length log + 1 = ap length is ∙ length-append log _ in
+    let seen_length : length seen ≡ length now = ap length all in
+    let calls : calls_by old.number now ≡ old.made ++ (call, reply) ∷ [] =
+    ap (calls_by old.number) is ∙ calls_by-entry_own old.number log _ refl ∙ ap (λ (m : List (CallData × ReplyData)). m ++ (call, reply) ∷ []) fit.all in
+    record {
+      between = b.0;
+      seen = all ∙ is ∙ ap (λ (l : List EntryData). entered l old.number call reply) (sym b.1);
+      legal = record { machine = machine; legal = subst (λ (l : List EntryData). IsLegalHistory l machine) (sym all) legal };
+      longer = omega (arith, told, grown, seen_length);
+      front = long ∙ sym seen_length;
+      number = same;
+      made = one_more;
+      own = ap (λ (n : ℕ). calls_by n seen) same ∙ ap (calls_by old.number) all ∙ calls ∙ sym one_more;
+    }
+
+-- one more call is kept
+pub kept_more : (old pushed : List (Call × Reply)) (one : Call × Reply) (call : CallData) (reply : ReplyData) (made : List (CallData × ReplyData))
+    → pushed ≡ old ++ one ∷ [] → map pair_data old ≡ made → call_data one.0 ≡ call → reply_data one.1 ≡ reply → map pair_data pushed ≡ made ++ (call, reply) ∷ []
+kept_more old pushed one call reply made is was called replied =
+    ap (map pair_data) is ∙ map-append pair_data old (one ∷ []) ∙ (λ i. was i ++ (called i, replied i) ∷ [])
+
+-- the entry that stands last in the journal is the new one
+pub committed : (entries : List Entry) (entry : Entry) (place : ℕ) (other : Entry) (log now : List EntryData) (last : EntryData)
+    → map entry_data entries ≡ now → now ≡ log ++ last ∷ [] → place ≡ length entries - 1 → entry ≡ get_or entries place other → log ++ entry_data entry ∷ [] ≡ now
+committed entries entry place other log now last are is end at =
+    let len : length entries ≡ length log + 1 = sym (length-map entries entry_data) ∙ ap length (are ∙ is) ∙ length-append log (last ∷ []) in
+    let here : place ≡ length log = omega (arith, end, len) in
+    let same : entry_data entry ≡ last =
+    ap entry_data at ∙ sym (get_or-map entry_data entries place other)
+    ∙ ap (λ (l : List EntryData). get_or l place (entry_data other)) (are ∙ is)
+    ∙ ap (λ (n : ℕ). get_or (log ++ last ∷ []) n (entry_data other)) here
+    ∙ get_or-append_seam log last [] (entry_data other) in
+    ap (λ (e : EntryData). log ++ e ∷ []) same ∙ sym is

@@ -1,0 +1,5 @@
+pub mod Passes
+pub mod Rule
+pub mod Steps
+pub mod Seats
+pub mod Desks

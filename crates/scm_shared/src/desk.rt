@@ -1,0 +1,129 @@
+//! What lies under the lock of a shared book.
+ghost use Rattle.std.specs.Prelude.{◌≡◌, ◌+◌, ◌<◌, [], true, MatchResult};
+ghost use Rattle.scm_sequences.specs.declared.refusal.Refusal.TheVariants.{JournalFull, NoMemory, TooManySessions};
+ghost use Rattle.scm_sequences.specs.declared.limits.TheConstants.{MOST_SESSIONS};
+ghost use Rattle.scm_book.specs.Calls.{call_data, reply_data, refused};
+ghost use Rattle.scm_book.specs.Journal.{makes_entry};
+ghost use Rattle.scm_shared.specs.Passes.{newcomer, Extended, SeenFull};
+ghost use Rattle.scm_shared.specs.Seats.{IsKeeper};
+
+use crate::hall::Hall;
+use crate::word::View;
+use crate::{BookNaming, Made, Pass};
+use atomic_table::Seat;
+use scm_book::{Book, Call, Entry, Reply};
+use scm_results::{Token, Totals};
+use scm_sequences::{MOST_ENTRIES, MOST_SESSIONS, Refusal};
+use std::alloc::Global;
+use std::marker::{Model, PhantomData};
+use std::sync::ledger;
+use std::sync::ledger::{Blank, Share};
+
+/// The book, with its seat, which knows the journal; how many passes entered; and the totals of tasks and outcomes, which are
+/// those of the book.
+#[derive(Drop)]
+pub(crate) struct Desk<B: BookNaming> {
+    pub(crate) book: Book,
+    pub(crate) entered: u16,
+    pub(crate) seat: Seat<Entry, View>,
+    pub(crate) totals: Totals<B>,
+    pub(crate) made: ledger::Book<Made<B>>,
+    pub(crate) rest: Share<Made<B>>,
+}
+
+impl<B: BookNaming> Model for Desk<B> {
+    ghost use Rattle.std.specs.Prelude.{◌≡◌, ◌+◌, ◌≤◌, length};
+    ghost use Rattle.scm_sequences.specs.declared.limits.TheConstants.{MOST_SESSIONS};
+    ghost use Rattle.scm_shared.specs.Desks.{Desked};
+    ghost use Rattle.scm_shared.specs.Seats.{IsKeeper};
+
+    ghost Value = { Desked };
+
+    ghost view = { λ d. record { book = d.book; entered = d.entered; totals = d.totals } };
+
+    ghost invariant = { λ d.
+        (d.seat.table_id ≡ B.table)
+        × IsKeeper d.seat.me d.book.journal d.entered
+        × (d.entered ≤ MOST_SESSIONS)
+        × (d.made.total ≡ length d.book.journal)
+        × (d.rest.parts + d.entered ≡ MOST_SESSIONS + 1)
+        × (d.rest.amount ≡ 0)
+        × (B.seats ≡ MOST_SESSIONS + 1)
+        × (d.totals.results ≡ d.book.results) };
+}
+
+impl<B: BookNaming> Desk<B> {
+    /// An empty book, into which nobody entered.
+    pub(crate) fn new(
+        alloc: Global,
+        totals: Token,
+        made: Blank,
+        seat: Seat<Entry, View>,
+    ) -> Desk<B>
+        requires seat { (seat.table_id ≡ B.table) × IsKeeper seat.me [] 0 }
+        requires made { (made.name ≡ B.made) × (made.parts ≡ B.seats) × (made.parts ≡ MOST_SESSIONS + 1) }
+        requires taken { totals.taken.name ≡ B.taken }
+        requires delivered { totals.delivered.name ≡ B.delivered }
+        requires parts { totals.taken.parts ≡ B.parts }
+    {
+        let (made, rest) = made.open::<Made<B>>();
+        Desk {
+            book: Book::new(alloc),
+            entered: 0,
+            seat,
+            totals: Totals::new(totals),
+            made,
+            rest,
+        }
+    }
+
+    /// A new pass.
+    pub(crate) fn enter(&mut self, hall: &Hall<B>, alloc: Global) -> Result<Pass<B>, Refusal>
+        ensures entered { MatchResult result (λ p. (p ≡ newcomer self.old.entered) × (self.old.entered < MOST_SESSIONS)) (λ r. (r ≡ TooManySessions) × (self.old.entered ≡ MOST_SESSIONS)) }
+    {
+        if usize::from(self.entered) >= MOST_SESSIONS {
+            return Err(Refusal::TooManySessions);
+        }
+        let number = self.entered;
+        let badge = hall.admit(&mut self.seat);
+        self.entered += 1;
+        Ok(Pass {
+            number,
+            kept: Vec::new(alloc),
+            front: 0,
+            badge,
+            share: self.rest.split_off(1, 0),
+            of: PhantomData,
+        })
+    }
+
+    /// Makes a call of the pass's session.
+    pub(crate) fn call(&mut self, hall: &Hall<B>, pass: &mut Pass<B>, call: Call) -> Reply
+        ensures made { makes_entry (reply_data result) ≡ true → Extended pass.old (call_data call) (reply_data result) pass.new }
+        ensures full { reply_data result ≡ refused JournalFull → SeenFull pass.old pass.new }
+        ensures refused { reply_data result ≡ refused NoMemory → pass.new ≡ pass.old }
+    {
+        if pass.kept.reserve(1).is_err() {
+            return Reply::Refused(Refusal::NoMemory);
+        }
+        let (reply, kept) = self.book.call_kept(pass.number, call);
+        match kept {
+            Some(kept) => {
+                let entries = self.book.entries();
+                let count = entries.len();
+                let entry = &entries[count - 1];
+                hall.commit(&mut self.seat, &mut pass.badge, entry, count as u64);
+                self.made.add(&mut pass.share, 1);
+                pass.front = count as u64;
+                pass.kept.push_reserved(kept);
+            }
+            None => {
+                if matches!(reply, Reply::Refused(Refusal::JournalFull)) {
+                    hall.catch_up(&mut self.seat, &mut pass.badge);
+                    pass.front = MOST_ENTRIES as u64;
+                }
+            }
+        }
+        reply
+    }
+}

@@ -1,0 +1,15 @@
+//! The book that threads share: one legal history, as each caller saw it.
+#![tactic(auto)]
+
+mod desk;
+mod hall;
+mod naming;
+mod pass;
+mod shared_book;
+mod token;
+mod word;
+
+pub use naming::{BookNaming, Made};
+pub use pass::Pass;
+pub use shared_book::SharedBook;
+pub use token::BookToken;
