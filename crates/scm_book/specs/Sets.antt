@@ -1,6 +1,6 @@
 -- The sets of situations that are kept beside the open traces, and what a call leaves of them. They are no part of the
 -- machine: they spare work, and what a reply may be doesn't depend on them.
-use Rattle.std.specs.Prelude.{ℕ, ◌≡◌, ◌+◌, ◌*◌, ◌<◌, ◌^◌, ⊤, List, [], ◌∷◌, ◌++◌, length, map, Option, None, Some, Result, Ok, IsSomeAnd, IsOkAnd, IfSome, MatchOption, MatchResult}
+use Rattle.std.specs.Prelude.{ℕ, ◌≡◌, ◌+◌, ◌*◌, ◌<◌, ◌^◌, ◌⊎◌, ⊤, List, [], ◌∷◌, ◌++◌, length, map, Option, None, Some, Result, Ok, IsSomeAnd, IsOkAnd, IfSome, MatchOption, MatchResult}
 use Rattle.std.specs.Map.{lookup, set_value, remove_entry}
 use Rattle.scm_sequences.specs.declared.refusal.Refusal.{Refusal}
 use Rattle.scm_sequences.specs.declared.op.Op.{Op}
@@ -68,21 +68,22 @@ abbrev pub asked_lengths : TraceState → Option ℕ → Result (List ℕ) Refus
 asked_lengths state None = Ok (lengths_of state.sequences)
 asked_lengths state (Some m) = mark_at state.marks m
 
--- where the reply says that there is a schedule, a situation with every operation is held; where it says that there is
--- none, all next operations were looked at
-abbrev pub IsKnownBy : ReplyData → List (List Op) → List ℕ → List Member → Type 0
-IsKnownBy (consistent schedule fixed) sequences lengths members = HasWhole lengths members
-IsKnownBy inconsistent sequences lengths members = IsAllDone sequences lengths members
-IsKnownBy (because situations) sequences lengths members = IsAllDone sequences lengths members
-IsKnownBy reply sequences lengths members = ⊤
+-- a question with this reply led from the old members to the new, while a counter of steps went from before to after: where
+-- the reply says that there is a schedule, a situation with every operation is held, or nothing was done, since the schedule
+-- was a proposal; where it says that there is none, all next operations were looked at
+abbrev pub IsKnownBy : ReplyData → List (List Op) → List ℕ → List Member → ℕ → List Member → ℕ → Type 0
+IsKnownBy (consistent schedule fixed) sequences lengths old before new after = HasWhole lengths new ⊎ ((new ≡ old) × (after ≡ before))
+IsKnownBy inconsistent sequences lengths old before new after = IsAllDone sequences lengths new
+IsKnownBy (because situations) sequences lengths old before new after = IsAllDone sequences lengths new
+IsKnownBy reply sequences lengths old before new after = ⊤
 
 -- a question about the trace cut to these lengths that is answered so leads from one set to another, while a counter of
 -- steps goes from before to after
 pub record Searches (state : TraceState) (reply : ReplyData) (before after : ℕ) (lengths : List ℕ) (old new : Kept) : Type 0 where
   pub initials : new.initials ≡ old.initials
   pub work : KeepsWork (record { sequences = state.sequences; lengths = lengths }) state.budget old.members before new.members after
-  -- so after any verdict but undecided the same question again makes no step
-  pub known : IsKnownBy reply state.sequences lengths new.members
+  -- so what was found out is found again with no step
+  pub known : IsKnownBy reply state.sequences lengths old.members before new.members after
 
 -- the same of a question with this mark, if it has one; where the mark isn't there nothing happens
 abbrev pub SearchesAt : TraceState → Option ℕ → ReplyData → ℕ → ℕ → Kept → Kept → Type 0

@@ -9,6 +9,7 @@ mod event;
 mod fixing;
 mod journal;
 mod open_trace;
+mod proposing;
 mod question;
 mod reply;
 mod showing;

@@ -70,7 +70,7 @@ fn a_consistent_mark_within_its_budget(rt: HostRuntime) {
             ("a do t 0 sw x 1", "a ok"),
             ("a mark t", "a ok 0"),
             ("a do t 0 sw x 2", "a ok"),
-            ("a do t 0 sw x 3", "a ok"),
+            ("a do t 0 lw x 9", "a ok"),
             ("a ask t 0", "a consistent 1 0"),
             ("a ask t", "a undecided"),
         ],
@@ -118,6 +118,30 @@ fn a_mark_asked_about_after_a_spent_budget(rt: HostRuntime) {
             ("b do t 1 lw x 1", "b ok"),
             ("a raise t 3", "a ok"),
             ("a ask t", "a consistent 2 0 1"),
+        ],
+    );
+}
+
+/// Schedules are proposed first, so a small budget is no hindrance, and a question at a mark none for a later one.
+#[test]
+fn schedules_beyond_the_budget(rt: HostRuntime) {
+    expect_exchanges(
+        &rt,
+        rt.alloc(),
+        &[
+            ("a open t 2 3 x:w=0", "a ok"),
+            ("a claim t 0", "a ok"),
+            ("a claim t 1", "a ok"),
+            ("a do t 1 sw x 1", "a ok"),
+            ("a mark t", "a ok 0"),
+            ("a do t 0 lw x 0", "a ok"),
+            ("a ask t", "a consistent 2 0 1"),
+            ("a ask t 0", "a consistent 1 1"),
+            ("a why t", "a consistent 2 0 1"),
+            ("a do t 0 lw x 1", "a ok"),
+            ("a ask t", "a consistent 3 0 1 0"),
+            ("a back t 0", "a ok"),
+            ("a ask t", "a consistent 1 1"),
         ],
     );
 }

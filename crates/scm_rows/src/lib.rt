@@ -22,6 +22,8 @@ mod litmus;
 #[cfg(test)]
 mod marks;
 #[cfg(test)]
+mod proposals;
+#[cfg(test)]
 mod real_size;
 #[cfg(test)]
 mod refusals;

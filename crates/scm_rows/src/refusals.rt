@@ -41,8 +41,8 @@ fn foreign_callers(rt: HostRuntime) {
 #[test]
 fn sequence_full(rt: HostRuntime) -> Result<(), Fail> {
     let mut script = Vec::new(rt.alloc());
-    script.extend_from_slice(b"a open t 2 1 x:w=0\na claim t 0\n")?;
-    for _ in 0..MOST_OPERATIONS {
+    script.extend_from_slice(b"a open t 2 1 x:w=0\na claim t 0\na do t 0 lw x 9\n")?;
+    for _ in 1..MOST_OPERATIONS {
         script.extend_from_slice(b"a do t 0 sw x 1\n")?;
     }
     script.extend_from_slice(
@@ -51,7 +51,7 @@ fn sequence_full(rt: HostRuntime) -> Result<(), Fail> {
     let written = replies_to(&rt, rt.alloc(), script.as_slice());
     assert!(rt;
         written.as_slice().ends_with(
-            b"\na ok\na refused 13 sequence-full\na refused 12 value-out-of-range\na undecided\na ok\na ok\n"
+            b"\na ok\na refused 13 sequence-full\na refused 12 value-out-of-range\na inconsistent\na ok\na ok\n"
         )
     );
     Ok(())

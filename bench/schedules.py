@@ -1,0 +1,85 @@
+"""How many consistent traces the monitor decides, and how long a question takes: bench/schedules.py PROGRAM [SAMPLES]."""
+
+import itertools
+import random
+import subprocess
+import sys
+import time
+
+import traces
+
+READS = (0.3, 0.5, 0.8)
+SLICES = (1, 10, 100)
+SECONDS = 120
+
+
+def run(program, lines):
+    script = "".join(line + "\n" for line in lines).encode()
+    begin = time.perf_counter()
+    try:
+        ended = subprocess.run([program], input=script, stdout=subprocess.PIPE, timeout=SECONDS)
+    except subprocess.TimeoutExpired:
+        return None, time.perf_counter() - begin
+    return ended.stdout.splitlines(), time.perf_counter() - begin
+
+
+def measure(program, name, scripts):
+    """One row: how many of the scripts end in a schedule, and the time of the question, without that of the reports."""
+    decided, times = 0, []
+    for lines in scripts:
+        lines = list(lines)
+        _, reporting = run(program, lines[:-1])
+        replies, taken = run(program, lines)
+        if replies and replies[-1].startswith(b"a inconsistent"):
+            sys.exit(f"{name}: wrong verdict")
+        decided += bool(replies) and replies[-1].startswith(b"a consistent")
+        times.append(max(0.0, taken - reporting))
+    mean, most = sum(times) / len(times), max(times)
+    print(f"{name:<40} {decided:>4} of {len(times):<4} {mean:>9.4f} {most:>9.4f}", flush=True)
+
+
+def at_random(procs, length, cells, values, samples):
+    rng = random.Random(f"{procs} {length} {values}")
+    for width, reads, slice_ in itertools.product(cells, READS, SLICES):
+        for _ in range(samples):
+            memory, count = traces.at_random(rng, procs, length, width, reads, slice_, values)
+            yield traces.script(memory, count)
+
+
+def synchronized(name, procs, samples):
+    rng = random.Random(f"{name} {procs}")
+    for slice_ in SLICES:
+        for _ in range(samples):
+            memory, count = traces.synchronized(rng, name, procs, 1_000, slice_)
+            yield traces.script(memory, count)
+
+
+def measure_growth(program, samples):
+    for number in range(samples):
+        rng = random.Random(number)
+        lines = list(traces.growing(rng, 8, 500, 8, 0.5, 10))
+        replies, taken = run(program, lines)
+        asked = [reply for line, reply in zip(lines, replies) if " ask " in line]
+        undecided = sum(reply.startswith(b"a undecided") for reply in asked)
+        print(f"{'8 x 500, grows':<40} {len(asked) - undecided:>4} of {len(asked):<4} {taken / len(asked):>9.4f}", flush=True)
+
+
+def main():
+    program = sys.argv[1]
+    samples = int(sys.argv[2]) if len(sys.argv) > 2 else 1
+    only = sys.argv[3] if len(sys.argv) > 3 else ""
+    print(f"{'traces':<40} {'decided':>12} {'mean s':>9} {'most s':>9}")
+    rows = [(f"{p} x {n}, unique values", at_random(p, n, (2, 8, 32), 0, samples)) for p, n in itertools.product((2, 4, 8), (100, 1_000, 5_000))]
+    rows += [(f"{p} x {n}, unique values", at_random(p, n, (2, 8, 32), 0, samples)) for p, n in itertools.product((16, 32), (200, 1_000))]
+    rows += [(f"{p} x 1000, {name}", synchronized(name, p, samples)) for name, p in itertools.product(traces.PROGRAMS, (4, 8))]
+    rows += [(f"{p} x 200, three values", at_random(p, 200, (2, 8, 32), 3, samples)) for p in (4, 8)]
+    rows += [("2 x 65535, by turns", iter([traces.script(*traces.by_turns(65_535))]))]
+    for name, scripts in rows:
+        if only in name:
+            measure(program, name, scripts)
+    if only in "grows":
+        measure_growth(program, samples)
+
+
+if __name__ == "__main__":
+    main()

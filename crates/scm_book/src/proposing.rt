@@ -1,0 +1,71 @@
+//! Schedules that were proposed and judged.
+ghost use Rattle.std.specs.Prelude.{ℕ, ◌≡◌, ◌≢◌, List, length, reverse, IfSome};
+ghost use Rattle.scm_sequences.specs.Lengths.{IsWithin};
+ghost use Rattle.scm_sequences.specs.Ops.{NamesCellsBelow};
+ghost use Rattle.scm_sequences.specs.Sequences.{lengths_of};
+ghost use Rattle.scm_sequences.specs.Traces.{trace_of, cut_to};
+ghost use Rattle.scm_sequences.specs.Fronts.{IsSchedule};
+ghost use Rattle.scm_cells.specs.CellLists.{initials_of};
+ghost use Rattle.scm_frontier.specs.Situated.{Situated};
+ghost use Rattle.scm_reach.specs.Members.{Member};
+ghost use Rattle.scm_book.specs.Calls.{reply_data, because, inconsistent};
+ghost use Rattle.scm_book.specs.Sets.{IsKnownBy};
+ghost use Rattle.scm_book.specs.Verdicts.{Fits};
+
+use crate::Reply;
+use crate::fixing::fixed_names;
+use scm_cells::Cells;
+use scm_proposals::propose;
+use scm_reach::Reach;
+use scm_schedules::is_legal;
+use scm_sequences::{Lengths, MOST_CELLS, Sequences};
+use std::alloc::Global;
+
+/// A legal schedule of the trace with these cells and sequences, cut to these lengths, where one was proposed. `None`
+/// also where the set has the answer already, where no proposal was legal, and where memory is refused.
+fn proposed(
+    alloc: Global,
+    cells: &Cells,
+    reach: &Reach,
+    sequences: &Sequences,
+    lengths: &Lengths,
+) -> Option<Vec<u8>>
+    requires within { IsWithin lengths.now (lengths_of sequences.now) }
+    requires names { NamesCellsBelow (length (initials_of cells.now)) sequences.now }
+    ensures { IfSome result (λ schedule. IsSchedule (cut_to (trace_of (initials_of cells.now) sequences.now) lengths.now) (reverse schedule.items)) }
+{
+    if reach.holds_whole(sequences, lengths) || !reach.is_open(sequences) {
+        return None;
+    }
+    prove!(cells.len() <= MOST_CELLS);
+    let initials = cells.initials().ok()?;
+    let schedule = propose(alloc, &initials, sequences, lengths)?;
+    if is_legal(&initials, sequences, lengths, &schedule) {
+        Some(schedule)
+    } else {
+        None
+    }
+}
+
+/// The verdict that a legal proposal is, of the trace with these cells and sequences, cut to these lengths. `None` where the
+/// set has to be asked.
+pub(crate) fn proposal(
+    alloc: Global,
+    cells: &Cells,
+    reach: &Reach,
+    sequences: &Sequences,
+    lengths: &Lengths,
+) -> Option<Reply>
+    requires within { IsWithin lengths.now (lengths_of sequences.now) }
+    requires names { NamesCellsBelow (length (initials_of cells.now)) sequences.now }
+    ensures fits { IfSome result (λ reply. (budget : ℕ) → Fits cells.now (cut_to (trace_of (initials_of cells.now) sequences.now) lengths.now) budget (reply_data reply)) }
+    ensures known { IfSome result (λ reply. (members : List Member) (made : ℕ) → IsKnownBy (reply_data reply) sequences.now lengths.now members made members made) }
+    ensures plain { IfSome result (λ reply. (situations : List Situated) → reply_data reply ≢ because situations) }
+    ensures refuted { IfSome result (λ reply. reply_data reply ≢ inconsistent) }
+{
+    let schedule = proposed(alloc, cells, reach, sequences, lengths)?;
+    let Ok(fixed) = fixed_names(alloc, cells, sequences, &schedule) else {
+        return None;
+    };
+    Some(Reply::Consistent { schedule, fixed })
+}

@@ -1,0 +1,65 @@
+//! What is known of a trace before the walk.
+use crate::numbering::Numbering;
+use crate::sources::Sources;
+use crate::values::Values;
+use crate::writes::Writes;
+use scm_sequences::{Lengths, Sequences};
+use std::alloc::Global;
+
+#[derive(Drop)]
+pub(crate) struct Facts {
+    pub(crate) numbering: Numbering,
+    pub(crate) values: Values,
+    pub(crate) writes: Writes,
+    pub(crate) sources: Sources,
+    pub(crate) procs: u32,
+    pub(crate) ops: u32,
+    pub(crate) cells: u32,
+}
+
+impl Facts {
+    pub(crate) fn new(
+        alloc: Global,
+        initials: &[Option<u64>],
+        sequences: &Sequences,
+        lengths: &Lengths,
+    ) -> Option<Facts> {
+        let numbering = Numbering::new(alloc, sequences, lengths)?;
+        let cells = u32::try_from(initials.len()).ok()?;
+        let mut values = Values::new(alloc, initials, &numbering)?;
+        let writes = Writes::new(alloc, cells, &numbering, &values.written)?;
+        let sources = Sources::new(alloc, &numbering, &mut values)?;
+        Some(Facts {
+            procs: numbering.procs()?,
+            ops: numbering.len()?,
+            cells,
+            numbering,
+            values,
+            writes,
+            sources,
+        })
+    }
+
+    /// The value that an operation found, by number; `None` for a write.
+    pub(crate) fn found(&self, x: u32) -> Option<u32> {
+        *self.values.found.get(x as usize)?
+    }
+
+    /// The value that an operation wrote, by number; `None` for a read.
+    pub(crate) fn written(&self, x: u32) -> Option<u32> {
+        *self.values.written.get(x as usize)?
+    }
+
+    /// The source of a read, if it is known.
+    pub(crate) fn source(&self, x: u32) -> Option<u32> {
+        *self.sources.of.get(x as usize)?
+    }
+
+    /// Whether an operation leaves its cell as it finds it, whoever wrote the value.
+    pub(crate) fn is_harmless(&self, x: u32) -> bool {
+        match self.written(x) {
+            Some(value) => self.found(x) == Some(value) && self.source(x).is_none(),
+            None => true,
+        }
+    }
+}

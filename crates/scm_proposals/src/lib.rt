@@ -1,0 +1,25 @@
+//! Schedules that are proposed: a fast walk, guided by what every legal schedule must do. Nothing of a proposal is
+//! believed, and no contract here says more than that a call is safe and ends; `scm_schedules::is_legal` is the judge.
+#![tactic(auto)]
+
+mod choosing;
+mod clocks;
+mod facts;
+mod flags;
+mod grid;
+mod memory;
+mod numbering;
+mod numbers;
+mod order;
+mod proposal;
+mod rank;
+mod saturation;
+mod sources;
+mod values;
+mod walk;
+mod writes;
+
+pub use proposal::propose;
+
+#[cfg(test)]
+mod tests;

@@ -1,0 +1,79 @@
+//! One numbering of all operations.
+ghost use Rattle.std.specs.Prelude.{◌≤◌, length};
+
+use scm_sequences::{Lengths, Op, Sequences};
+use std::alloc::Global;
+
+/// All operations within the lengths under one number each: those of process 0 in order, then those of process 1, ..
+#[derive(Drop)]
+pub(crate) struct Numbering {
+    ops: Vec<Op>,
+    owners: Vec<u32>,
+    firsts: Vec<u32>,
+    counts: Vec<u32>,
+}
+
+impl Numbering {
+    pub(crate) fn new(alloc: Global, sequences: &Sequences, lengths: &Lengths) -> Option<Numbering> {
+        let mut numbering = Numbering {
+            ops: Vec::new(alloc),
+            owners: Vec::new(alloc),
+            firsts: Vec::new(alloc),
+            counts: Vec::new(alloc),
+        };
+        for p in 0..lengths.procs() {
+            numbering.add(sequences.operations(p), lengths.get(p))?;
+        }
+        Some(numbering)
+    }
+
+    // Adds a process with so many of these operations.
+    fn add(&mut self, ops: &[Op], count: u32) -> Option<()> {
+        let owner = self.procs()?;
+        let first = self.len()?;
+        self.firsts.push(first).ok()?;
+        for op in ops.iter().take(count as usize) {
+            self.ops.push(*op).ok()?;
+            self.owners.push(owner).ok()?;
+        }
+        self.counts.push(count).ok()
+    }
+
+    pub(crate) fn procs(&self) -> Option<u32> {
+        u32::try_from(self.counts.len()).ok()
+    }
+
+    /// How many operations there are.
+    pub(crate) fn len(&self) -> Option<u32> {
+        u32::try_from(self.ops.len()).ok()
+    }
+
+    /// How many operations a process has.
+    pub(crate) fn count(&self, process: u32) -> Option<u32> {
+        self.counts.get(process as usize).copied()
+    }
+
+    pub(crate) fn op(&self, x: u32) -> Option<Op> {
+        self.ops.get(x as usize).copied()
+    }
+
+    pub(crate) fn cell(&self, x: u32) -> Option<u32> {
+        u32::try_from(self.op(x)?.cell()).ok()
+    }
+
+    /// The process of an operation, and its place there.
+    pub(crate) fn spot(&self, x: u32) -> Option<(u32, u32)> {
+        let process = *self.owners.get(x as usize)?;
+        let first = *self.firsts.get(process as usize)?;
+        Some((process, x.checked_sub(first)?))
+    }
+
+    /// The number of the operation at a place of a process, if it has one there.
+    pub(crate) fn number(&self, process: u32, place: u32) -> Option<u32> {
+        if place < self.count(process)? {
+            self.firsts.get(process as usize)?.checked_add(place)
+        } else {
+            None
+        }
+    }
+}

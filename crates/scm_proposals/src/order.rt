@@ -1,0 +1,161 @@
+//! What comes before what in every legal schedule that begins with what was made so far.
+use crate::clocks::Clocks;
+use crate::facts::Facts;
+use crate::flags::Flags;
+use crate::numbers::Numbers;
+use std::alloc::Global;
+
+/// How far beyond the front operations are visited during the walk.
+const WINDOW: u32 = 24;
+
+/// The clocks of all operations, and how far each process has come. `None` from a method that raises clocks says that
+/// the order contradicts itself, or that the fuel is spent.
+#[derive(Drop)]
+pub(crate) struct Order {
+    pub(crate) facts: Facts,
+    pub(crate) clocks: Clocks,
+    pub(crate) counts: Numbers,
+    pub(crate) flags: Flags,
+    pub(crate) window: u32,
+    pub(crate) fuel: u64,
+    /// What is left of the fuel for one write's consequences.
+    pub(crate) share: u64,
+}
+
+impl Order {
+    /// The order of the processes, with all operations flagged, in turn for all processes.
+    pub(crate) fn new(alloc: Global, facts: Facts, fuel: u64) -> Option<Order> {
+        let mut order = Order {
+            clocks: Clocks::new(alloc, &facts.numbering)?,
+            counts: Numbers::zeros(alloc, facts.procs)?,
+            flags: Flags::new(alloc, facts.ops)?,
+            window: u32::MAX,
+            fuel,
+            share: fuel,
+            facts,
+        };
+        for place in 0..order.facts.ops {
+            order.flag_at(place)?;
+        }
+        Some(order)
+    }
+
+    // Flags the operations at a place of all processes.
+    fn flag_at(&mut self, place: u32) -> Option<()> {
+        for process in 0..self.facts.procs {
+            if let Some(x) = self.facts.numbering.number(process, place) {
+                self.flags.add(x)?;
+            }
+        }
+        Some(())
+    }
+
+    /// Ends the saturation: from now on clocks can be taken back, and only operations near the front are visited.
+    pub(crate) fn begin_walk(&mut self) {
+        self.clocks.record();
+        self.window = WINDOW;
+    }
+
+    pub(crate) fn burn(&mut self) -> Option<()> {
+        self.fuel = self.fuel.checked_sub(1)?;
+        Some(())
+    }
+
+    /// Whether an operation was made.
+    pub(crate) fn is_made(&self, x: u32) -> Option<bool> {
+        let (process, place) = self.facts.numbering.spot(x)?;
+        Some(place < self.counts.get(process)?)
+    }
+
+    /// Flags an operation that lies within the window.
+    pub(crate) fn flag(&mut self, x: u32) -> Option<()> {
+        let (process, place) = self.facts.numbering.spot(x)?;
+        if place < self.counts.get(process)?.saturating_add(self.window) {
+            self.flags.add(x)?;
+        }
+        Some(())
+    }
+
+    /// Flags the operation of a process that has just come into the window.
+    pub(crate) fn flag_entering(&mut self, process: u32) -> Option<()> {
+        let place = self.counts.get(process)?.saturating_add(self.window.saturating_sub(1));
+        if let Some(x) = self.facts.numbering.number(process, place) {
+            self.flags.add(x)?;
+        }
+        Some(())
+    }
+
+    /// Flags the first operation of each process whose clock has this one, and the one after it.
+    pub(crate) fn flag_dependents(&mut self, x: u32) -> Option<()> {
+        let (owner, place) = self.facts.numbering.spot(x)?;
+        for process in 0..self.facts.procs {
+            let first = if process == owner {
+                place.saturating_add(1)
+            } else {
+                self.first_after(process, owner, place)?
+            };
+            if let Some(y) = self.facts.numbering.number(process, first) {
+                self.flag(y)?;
+            }
+        }
+        Some(())
+    }
+
+    // The place of the first operation of a process, from the front on, that comes after the one at a place of `owner`.
+    fn first_after(&self, process: u32, owner: u32, place: u32) -> Option<u32> {
+        let mut low = self.counts.get(process)?;
+        let mut high = self.facts.numbering.count(process)?;
+        for _ in 0..u32::BITS {
+            if low >= high {
+                break;
+            }
+            let middle = low.midpoint(high);
+            let x = self.facts.numbering.number(process, middle)?;
+            if self.clocks.get(x, owner)? > place {
+                high = middle;
+            } else {
+                low = middle.saturating_add(1);
+            }
+        }
+        Some(low)
+    }
+
+    // So many operations of a process come before `x`. Whether that is new.
+    fn raise(&mut self, x: u32, process: u32, count: u32) -> Option<bool> {
+        if self.clocks.get(x, process)? >= count {
+            return Some(false);
+        }
+        let (owner, place) = self.facts.numbering.spot(x)?;
+        if owner == process {
+            return None;
+        }
+        if place >= self.counts.get(owner)? {
+            self.clocks.set(x, process, count)?;
+            return Some(true);
+        }
+        if count > self.counts.get(process)? {
+            return None;
+        }
+        Some(false)
+    }
+
+    /// Puts `x` after `y` and all that comes before `y`. Whether something of that is new.
+    pub(crate) fn absorb(&mut self, x: u32, y: u32) -> Option<bool> {
+        let (owner, place) = self.facts.numbering.spot(y)?;
+        let mut is_new = self.raise(x, owner, place.checked_add(1)?)?;
+        for process in 0..self.facts.procs {
+            let count = self.clocks.get(y, process)?;
+            is_new = self.raise(x, process, count)? || is_new;
+        }
+        Some(is_new)
+    }
+
+    /// The same, but nothing is done where `x` is known to come after `y`.
+    pub(crate) fn put_after(&mut self, x: u32, y: u32) -> Option<bool> {
+        let (owner, place) = self.facts.numbering.spot(y)?;
+        if self.clocks.get(x, owner)? > place {
+            return Some(false);
+        }
+        self.absorb(x, y)
+    }
+}

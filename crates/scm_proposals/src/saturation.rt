@@ -1,0 +1,157 @@
+//! The consequences of what is known, until there are no more.
+use crate::order::Order;
+
+impl Order {
+    /// Visits what is flagged until nothing is. `None` where the order contradicts itself or the fuel is spent; nothing
+    /// is flagged then either.
+    pub(crate) fn spread(&mut self) -> Option<()> {
+        let end = self.visit_flagged();
+        if end.is_none() {
+            self.flags.clear();
+        }
+        end
+    }
+
+    fn visit_flagged(&mut self) -> Option<()> {
+        for _ in 0..self.share {
+            let Some(x) = self.flags.next() else {
+                return Some(());
+            };
+            self.burn()?;
+            self.visit(x)?;
+        }
+        None
+    }
+
+    // Draws the consequences of what comes before `x`.
+    fn visit(&mut self, x: u32) -> Option<()> {
+        if self.is_made(x)? {
+            return Some(());
+        }
+        let mut is_new = self.follow_process(x)?;
+        if let Some(source) = self.facts.source(x) {
+            is_new = self.follow_source(x, source)? || is_new;
+        }
+        is_new = self.follow_clock(x)? || is_new;
+        if self.facts.written(x).is_some() {
+            is_new = self.follow_readers(x)? || is_new;
+        }
+        if let Some(source) = self.facts.source(x) {
+            self.push_source(x, source)?;
+        }
+        if is_new {
+            self.flag_dependents(x)?;
+        }
+        Some(())
+    }
+
+    // The operation before `x` of its process, if that isn't made.
+    fn before(&self, x: u32) -> Option<u32> {
+        let y = x.checked_sub(1)?;
+        let (owner, place) = self.facts.numbering.spot(x)?;
+        if place > self.counts.get(owner)? {
+            Some(y)
+        } else {
+            None
+        }
+    }
+
+    fn follow_process(&mut self, x: u32) -> Option<bool> {
+        match self.before(x) {
+            Some(y) => self.absorb(x, y),
+            None => Some(false),
+        }
+    }
+
+    // A read comes after its source.
+    fn follow_source(&mut self, x: u32, source: u32) -> Option<bool> {
+        if source < self.facts.ops {
+            self.put_after(x, source)
+        } else {
+            Some(false)
+        }
+    }
+
+    // What comes before `x` has itself something before it.
+    fn follow_clock(&mut self, x: u32) -> Option<bool> {
+        let before = self.before(x);
+        let mut is_new = false;
+        for process in 0..self.facts.procs {
+            let count = self.clocks.get(x, process)?;
+            if count <= self.counts.get(process)? {
+                continue;
+            }
+            if let Some(y) = before
+                && self.clocks.get(y, process)? == count
+            {
+                continue;
+            }
+            let y = self.facts.numbering.number(process, count.checked_sub(1)?)?;
+            if y != x {
+                is_new = self.absorb(x, y)? || is_new;
+            }
+        }
+        Some(is_new)
+    }
+
+    // A write comes after all that read what an earlier write to its cell, or the first contents, left there.
+    fn follow_readers(&mut self, x: u32) -> Option<bool> {
+        let cell = self.facts.numbering.cell(x)?;
+        let mut is_new = false;
+        for process in 0..self.facts.procs {
+            let count = self.clocks.get(x, process)?;
+            if let Some(place) = self.facts.writes.before(process, cell, count)
+                && place >= self.counts.get(process)?
+            {
+                let earlier = self.facts.numbering.number(process, place)?;
+                is_new = self.put_after_readers(x, earlier)? || is_new;
+            }
+        }
+        let first = self.facts.ops.checked_add(cell)?;
+        Some(self.put_after_readers(x, first)? || is_new)
+    }
+
+    /// Puts the write `x` after all that read from `writer`.
+    pub(crate) fn put_after_readers(&mut self, x: u32, writer: u32) -> Option<bool> {
+        let (owner, place) = self.facts.numbering.spot(x)?;
+        let is_own = self.facts.source(x) == Some(writer);
+        let mut is_new = false;
+        for process in 0..self.facts.procs {
+            let count = self.facts.sources.readers.get(writer, process)?;
+            if process == owner {
+                if count > place && !(is_own && count == place.saturating_add(1)) {
+                    return None;
+                }
+            } else if count > self.counts.get(process)? {
+                let reader = self.facts.numbering.number(process, count.checked_sub(1)?)?;
+                is_new = self.put_after(x, reader)? || is_new;
+            }
+        }
+        Some(is_new)
+    }
+
+    // A write to the cell that comes before the read `x` comes before its source.
+    fn push_source(&mut self, x: u32, source: u32) -> Option<()> {
+        let cell = self.facts.numbering.cell(x)?;
+        let mut is_new = false;
+        for process in 0..self.facts.procs {
+            let count = self.clocks.get(x, process)?;
+            let Some(place) = self.facts.writes.before(process, cell, count) else {
+                continue;
+            };
+            let earlier = self.facts.numbering.number(process, place)?;
+            if earlier == source || earlier == x || place < self.counts.get(process)? {
+                continue;
+            }
+            if source >= self.facts.ops {
+                return None;
+            }
+            is_new = self.put_after(source, earlier)? || is_new;
+        }
+        if is_new {
+            self.flag(source)?;
+            self.flag_dependents(source)?;
+        }
+        Some(())
+    }
+}

@@ -1,0 +1,209 @@
+//! The walk: one operation after the other.
+use crate::choosing::Choice;
+use crate::memory::{Before, Memory};
+use crate::numbers::Numbers;
+use crate::order::Order;
+use crate::rank::Rank;
+use std::alloc::Global;
+
+/// How many visits the consequences of one write may take.
+const SHARE: u64 = 20_000;
+
+/// A walk, with all that is needed to take back what it made.
+#[derive(Drop)]
+pub(crate) struct Walk {
+    pub(crate) order: Order,
+    pub(crate) memory: Memory,
+    pub(crate) last: u32,
+    /// For each writer how many known readers are not made.
+    pub(crate) waiting: Numbers,
+    /// For each value how many reads whose source isn't known are not made.
+    pub(crate) reads: Numbers,
+    /// For each value how many writes are not made.
+    pub(crate) writes: Numbers,
+    // For each write the version of its cell, and 1, at which it may not be made.
+    barred: Numbers,
+    made: Vec<Made>,
+    decisions: Vec<Decision>,
+}
+
+/// An operation that was made, and what its cell held before.
+#[derive(Clone, Copy)]
+struct Made {
+    x: u32,
+    process: u32,
+    before: Before,
+}
+
+/// A write that was chosen from several: how many operations were made before, and how many clocks changed.
+#[derive(Clone, Copy)]
+struct Decision {
+    x: u32,
+    made: usize,
+    changes: usize,
+}
+
+impl Walk {
+    /// Before any operation, under an order that is saturated.
+    pub(crate) fn new(alloc: Global, mut order: Order) -> Option<Walk> {
+        order.begin_walk();
+        order.share = SHARE;
+        let memory = Memory::new(alloc, &order.facts)?;
+        let mut walk = Walk {
+            memory,
+            last: 0,
+            waiting: Numbers::zeros(alloc, order.facts.ops.checked_add(order.facts.cells)?)?,
+            reads: Numbers::zeros(alloc, order.facts.values.count)?,
+            writes: Numbers::zeros(alloc, order.facts.values.count)?,
+            barred: Numbers::zeros(alloc, order.facts.ops)?,
+            made: Vec::new(alloc),
+            decisions: Vec::new(alloc),
+            order,
+        };
+        walk.count_all()?;
+        Some(walk)
+    }
+
+    // Counts what is to be made.
+    fn count_all(&mut self) -> Option<()> {
+        for x in 0..self.order.facts.ops {
+            self.await_again(x)?;
+        }
+        Some(())
+    }
+
+    // Counts `x` among what is to be made.
+    fn await_again(&mut self, x: u32) -> Option<()> {
+        if let Some(source) = self.order.facts.source(x) {
+            self.waiting.raise(source)?;
+        } else if let Some(found) = self.order.facts.found(x) {
+            self.reads.raise(found)?;
+        }
+        match self.order.facts.written(x) {
+            Some(written) => self.writes.raise(written),
+            None => Some(()),
+        }
+    }
+
+    fn await_no_more(&mut self, x: u32) -> Option<()> {
+        if let Some(source) = self.order.facts.source(x) {
+            self.waiting.lower(source)?;
+        } else if let Some(found) = self.order.facts.found(x) {
+            self.reads.lower(found)?;
+        }
+        match self.order.facts.written(x) {
+            Some(written) => self.writes.lower(written),
+            None => Some(()),
+        }
+    }
+
+    /// Makes all operations. `None` where it gives up.
+    pub(crate) fn make_all(&mut self) -> Option<()> {
+        for _ in 0..u64::MAX {
+            if self.made.len() == self.order.facts.ops as usize {
+                return Some(());
+            }
+            self.order.burn()?;
+            match self.choose() {
+                Some(choice) => self.try_out(choice)?,
+                None => self.take_back_decision()?,
+            }
+        }
+        None
+    }
+
+    // Makes an operation, and takes it back where its consequences contradict each other.
+    fn try_out(&mut self, choice: Choice) -> Option<()> {
+        let decision = Decision {
+            x: choice.x,
+            made: self.made.len(),
+            changes: self.order.clocks.changes(),
+        };
+        self.make(choice.x)?;
+        if choice.rank == Rank::Harmless {
+            return Some(());
+        }
+        if self.draw(choice.x).is_none() {
+            self.order.flags.clear();
+            return self.take_back(decision);
+        }
+        if let Rank::Read { .. } = choice.rank {
+            self.decisions.push(decision).ok()?;
+        }
+        Some(())
+    }
+
+    fn take_back_decision(&mut self) -> Option<()> {
+        let decision = self.decisions.pop()?;
+        self.take_back(decision)
+    }
+
+    // Takes back all from a write on, which may not be made as long as its cell holds what it holds then.
+    fn take_back(&mut self, decision: Decision) -> Option<()> {
+        self.order.clocks.take_back(decision.changes)?;
+        for _ in decision.made..self.made.len() {
+            self.order.burn()?;
+            self.unmake()?;
+        }
+        let cell = self.order.facts.numbering.cell(decision.x)?;
+        let version = self.memory.version(cell)?;
+        self.barred.set(decision.x, version.checked_add(1)?)
+    }
+
+    pub(crate) fn is_barred(&self, x: u32, cell: u32) -> Option<bool> {
+        Some(self.barred.get(x)? == self.memory.version(cell)?.checked_add(1)?)
+    }
+
+    fn make(&mut self, x: u32) -> Option<()> {
+        let (process, _) = self.order.facts.numbering.spot(x)?;
+        let cell = self.order.facts.numbering.cell(x)?;
+        let before = self.memory.before(cell)?;
+        self.made.push(Made { x, process, before }).ok()?;
+        self.last = process;
+        self.order.counts.raise(process)?;
+        self.order.flag_entering(process)?;
+        self.await_no_more(x)?;
+        if let Some(found) = self.order.facts.found(x) {
+            self.memory.hold(cell, found)?;
+        }
+        match self.order.facts.written(x) {
+            Some(value) if !self.order.facts.is_harmless(x) => self.memory.write(cell, x, value),
+            _ => Some(()),
+        }
+    }
+
+    fn unmake(&mut self) -> Option<()> {
+        let Made { x, process, before } = self.made.pop()?;
+        let cell = self.order.facts.numbering.cell(x)?;
+        self.order.counts.lower(process)?;
+        self.await_again(x)?;
+        self.barred.set(x, 0)?;
+        self.memory.put_back(cell, before)
+    }
+
+    // Draws the consequences of a write that was just made: the next writes to its cell come after its readers.
+    fn draw(&mut self, x: u32) -> Option<()> {
+        let cell = self.order.facts.numbering.cell(x)?;
+        for process in 0..self.order.facts.procs {
+            let count = self.order.counts.get(process)?;
+            let Some(place) = self.order.facts.writes.from(process, cell, count) else {
+                continue;
+            };
+            let later = self.order.facts.numbering.number(process, place)?;
+            if self.order.put_after_readers(later, x)? {
+                self.order.flag(later)?;
+                self.order.flag_dependents(later)?;
+            }
+        }
+        self.order.spread()
+    }
+
+    /// The processes of what was made, in order.
+    pub(crate) fn schedule(&self, alloc: Global) -> Option<Vec<u8>> {
+        let mut schedule = Vec::new(alloc);
+        for made in self.made.iter() {
+            schedule.push(u8::try_from(made.process).ok()?).ok()?;
+        }
+        Some(schedule)
+    }
+}
