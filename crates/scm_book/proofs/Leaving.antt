@@ -1,6 +1,6 @@
 -- What each way out of a call leaves of the sets.
 use Rattle.std.proofs.lemmas.Bool.{leb-true, le-leb}
-use Rattle.std.proofs.Common.{◌≡◌, ◌+◌, ◌-◌, ◌<◌, ◌≤◌, ◌^◌, nat_le, arith, IfSome, IsTrue, ℕ, true, false, List, length, Option, None, Some, Result, Ok, Err, IsOkAnd, IsSomeAnd, MatchOption, MatchResult, refl, sym, ap, ◌∙◌, subst}
+use Rattle.std.proofs.Common.{inl, inr, ◌≡◌, ◌+◌, ◌-◌, ◌<◌, ◌≤◌, ◌^◌, nat_le, arith, IfSome, IsTrue, ℕ, true, false, List, length, Option, None, Some, Result, Ok, Err, IsOkAnd, IsSomeAnd, MatchOption, MatchResult, refl, sym, ap, ◌∙◌, subst}
 use Rattle.std.specs.Map.{lookup, set_value}
 use Rattle.std.proofs.lemmas.Map.Steps.{set_value_same}
 use Rattle.scm_sequences.specs.declared.refusal.Refusal.{Refusal}
@@ -8,13 +8,15 @@ use Rattle.scm_sequences.specs.declared.refusal.Refusal.TheVariants.{NoMemory}
 use Rattle.scm_cells.specs.Names.{name_eq}
 use Rattle.scm_marks.specs.MarkLists.{mark_at}
 use Rattle.scm_reach.specs.Kept.{Kept}
+use Rattle.scm_reach.specs.Members.{Member}
+use Rattle.scm_sequences.specs.declared.op.Op.{Op}
 use Rattle.scm_reach.specs.Cutting.{cut_members}
 use Rattle.scm_reach.specs.WorkLaws.{KeepsWork-idle, KeepsWork-counted}
 use Rattle.scm_book.specs.Calls.{CallData, opens, claims, releases, reports, sets_mark, goes_back, raises, asks, asks_why, shows, lists, closes, ReplyData, done, marked, consistent, inconsistent, undecided, because, ops, listed, refused}
 use Rattle.scm_book.specs.Changes.{tells_of_change}
 use Rattle.scm_book.specs.Machine.{Machine, TraceState, trace_named}
 use Rattle.scm_book.specs.Sound.{IsKeptFor}
-use Rattle.scm_book.specs.Sets.{most_steps, HasRoomFor, HoldsFor, KeptTrace, machine_in, sets_in, set_named, Becomes, CutsSet, asked_lengths, Searches, IsIdle, SearchesSet, IfDone, LeavesSets}
+use Rattle.scm_book.specs.Sets.{most_steps, HasRoomFor, HoldsFor, KeptTrace, machine_in, sets_in, set_named, IsKnownBy, Becomes, CutsSet, asked_lengths, Searches, IsIdle, SearchesSet, IfDone, LeavesSets}
 use Rattle.scm_book.proofs.Entries.{trace_named-lookup, set_named-lookup}
 
 module _ (machine : Machine) (sets new : List (List ℕ × Kept)) (name : List ℕ) where
@@ -130,11 +132,24 @@ leaves_uncopied machine old new (closes name) reply before after still left = (s
 counted_idle : (old new : List (List ℕ × Kept)) (before after : ℕ) → IsIdle old before after new → (before ≤ after) × IsIdle old 0 (after - before) new
 counted_idle old new before after idle = (omega (arith, idle.1), (idle.0, omega (arith, idle.1)))
 
+known_counted : (reply : ReplyData) (sequences : List (List Op)) (lengths : List ℕ) (old new : List Member) (before after : ℕ) → IsKnownBy reply sequences lengths old before new after
+    → IsKnownBy reply sequences lengths old 0 new (after - before)
+known_counted (consistent schedule fixed) sequences lengths old new before after (inl whole) = inl whole
+known_counted (consistent schedule fixed) sequences lengths old new before after (inr idle) = inr (idle.0, omega (arith, idle.1))
+known_counted inconsistent sequences lengths old new before after known = known
+known_counted (because situations) sequences lengths old new before after known = known
+known_counted done sequences lengths old new before after known = known
+known_counted (marked mark) sequences lengths old new before after known = known
+known_counted undecided sequences lengths old new before after known = known
+known_counted (ops shown) sequences lengths old new before after known = known
+known_counted (listed names) sequences lengths old new before after known = known
+known_counted (refused refusal) sequences lengths old new before after known = known
+
 searches_counted : (machine : Machine) (old new : List (List ℕ × Kept)) (name : List ℕ) (mark : Option ℕ) (reply : ReplyData) (before after : ℕ) → SearchesSet machine old name mark reply before after new
     → (before ≤ after) × SearchesSet machine old name mark reply 0 (after - before) new
 searches_counted machine old new name mark reply before after = by (trace_named machine name) where
   counted_of : (state : TraceState) (lengths : List ℕ) → Becomes old name (Searches state reply before after lengths) new → (before ≤ after) × Becomes old name (Searches state reply 0 (after - before) lengths) new
-  counted_of state lengths b = (b.leads.work.rises, record { before = b.before; after = b.after; found = b.found; leads = record { initials = b.leads.initials; work = KeepsWork-counted _ _ _ before _ after b.leads.work; known = b.leads.known }; written = b.written })
+  counted_of state lengths b = (b.leads.work.rises, record { before = b.before; after = b.after; found = b.found; leads = record { initials = b.leads.initials; work = KeepsWork-counted _ _ _ before _ after b.leads.work; known = known_counted reply state.sequences lengths _ _ before after b.leads.known }; written = b.written })
 
   at : (state : TraceState) (r : Result (List ℕ) Refusal) → MatchResult r (λ lengths. Becomes old name (Searches state reply before after lengths) new) (λ refusal. IsIdle old before after new)
       → (before ≤ after) × MatchResult r (λ lengths. Becomes old name (Searches state reply 0 (after - before) lengths) new) (λ refusal. IsIdle old 0 (after - before) new)

@@ -20,6 +20,9 @@ use words::read_words;
 /// The exit status of a command line that is refused.
 const USAGE_STATUS: u8 = 2;
 
+/// How many bytes of replies are gathered for one write.
+const WRITTEN_AT_ONCE: usize = 65_536;
+
 fn main(rt: HostRuntime) -> ExitCode {
     match read_words(&rt) {
         Ok(words) => follow(&rt, words.as_slice()),
@@ -71,10 +74,10 @@ fn fail(rt: &HostRuntime, fault: &RunFault) -> ExitCode {
 }
 
 // Runs the script on standard input, and writes the journal where it is asked for. Replies go through a buffer, which is
-// flushed after each.
+// flushed before more is read.
 fn run(rt: &HostRuntime, options: Options) -> Result<(), RunFault> {
     let alloc = rt.alloc();
-    let Ok(output) = BufWriter::new(alloc, io::writer(rt)) else {
+    let Ok(output) = BufWriter::with_capacity(alloc, WRITTEN_AT_ONCE, io::writer(rt)) else {
         return Err(RunFault::NoMemory);
     };
     let mut reader = Port::new(rt.reader());

@@ -64,11 +64,12 @@ const ALL_REPLIES: &str = "a ok\n\
 /// How many lines `many_reads` gives, more than two 16-bit counts can hold.
 const MANY: usize = 140_000;
 
-/// How a script ran: its fault, what was written, and whether a reply came late.
+/// How a script ran: its fault, what was written, how many replies of it were flushed, and whether a reply came late.
 #[derive(Drop)]
 struct Ran {
     fault: Option<RunFault>,
     written: Vec<u8>,
+    flushed: usize,
     is_late: bool,
 }
 
@@ -91,6 +92,7 @@ fn run_of(alloc: Global, script: &[u8], step: usize, read_limit: usize, write_li
     Ran {
         fault: ended.err(),
         written: writer.into_inner().taken,
+        flushed: wire.replies_flushed.get(),
         is_late: wire.is_late.get(),
     }
 }
@@ -144,6 +146,7 @@ fn a_read_fault_ends_the_run(rt: HostRuntime) {
             let ran = run_of(rt.alloc(), script, step, limit, usize::MAX);
             let wanted = replies_to(&script[..limit], REPLIES.as_bytes());
             assert_eq!(rt; ran.fault, Some(RunFault::ReadFailed));
+            assert!(rt; !ran.is_late, "a reply came late at {step} and {limit}");
             assert_eq!(rt; ran.written.as_slice(), wanted, "at {step} and {limit}");
         }
     }
@@ -179,6 +182,8 @@ fn some_lines_are_bad_and_some_ask_for_nothing(rt: HostRuntime) -> Result<(), Fa
         b"? refused 1 bad-line\na refused 1 bad-line\n? refused 1 bad-line\nb refused 1 bad-line\n";
     assert_eq!(rt; ran.fault, None);
     assert_eq!(rt; ran.written.as_slice(), wanted.as_slice());
+    // the last line has no line feed
+    assert_eq!(rt; ran.flushed, 4);
     Ok(())
 }
 
