@@ -15,7 +15,13 @@ impl Walk {
         let procs = self.order.facts.procs;
         let mut best = self.choice(self.last, true);
         for process in 0..procs {
-            if let Some(Choice { rank: Rank::Harmless, .. }) = best {
+            if let Some(
+                Choice {
+                    rank: Rank::Harmless,
+                    ..
+                },
+            ) = best
+            {
                 break;
             }
             let other = self.choice(process, false);

@@ -14,7 +14,11 @@ pub(crate) struct Numbering {
 }
 
 impl Numbering {
-    pub(crate) fn new(alloc: Global, sequences: &Sequences, lengths: &Lengths) -> Option<Numbering> {
+    pub(crate) fn new(
+        alloc: Global,
+        sequences: &Sequences,
+        lengths: &Lengths,
+    ) -> Option<Numbering> {
         let mut numbering = Numbering {
             ops: Vec::new(alloc),
             owners: Vec::new(alloc),

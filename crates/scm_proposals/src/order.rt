@@ -5,8 +5,12 @@ use crate::flags::Flags;
 use crate::numbers::Numbers;
 use std::alloc::Global;
 
-/// How far beyond the front operations are visited during the walk.
-const WINDOW: u32 = 24;
+/// How far beyond the front operations are visited during the walk, where the processes are few and where they are many.
+const WINDOW_OF_FEW: u32 = 24;
+
+const WINDOW_OF_MANY: u32 = 12;
+
+const FEW_PROCESSES: u32 = 8;
 
 /// The clocks of all operations, and how far each process has come. `None` from a method that raises clocks says that
 /// the order contradicts itself, or that the fuel is spent.
@@ -53,7 +57,11 @@ impl Order {
     /// Ends the saturation: from now on clocks can be taken back, and only operations near the front are visited.
     pub(crate) fn begin_walk(&mut self) {
         self.clocks.record();
-        self.window = WINDOW;
+        self.window = if self.facts.procs <= FEW_PROCESSES {
+            WINDOW_OF_FEW
+        } else {
+            WINDOW_OF_MANY
+        };
     }
 
     pub(crate) fn burn(&mut self) -> Option<()> {
@@ -78,7 +86,10 @@ impl Order {
 
     /// Flags the operation of a process that has just come into the window.
     pub(crate) fn flag_entering(&mut self, process: u32) -> Option<()> {
-        let place = self.counts.get(process)?.saturating_add(self.window.saturating_sub(1));
+        let place = self
+            .counts
+            .get(process)?
+            .saturating_add(self.window.saturating_sub(1));
         if let Some(x) = self.facts.numbering.number(process, place) {
             self.flags.add(x)?;
         }

@@ -6,7 +6,8 @@ use scm_sequences::{Lengths, Sequences};
 use std::alloc::Global;
 
 /// How many visits and moves are made for each operation, and for any trace.
-const FUEL: u64 = 128;
+const FUEL: u64 = 192;
+
 const LEAST_FUEL: u64 = 10_000;
 
 /// A schedule for the trace with these first contents (`None` is an open cell) and these sequences, cut to these

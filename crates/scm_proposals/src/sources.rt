@@ -33,7 +33,11 @@ fn writers(alloc: Global, numbering: &Numbering, values: &mut Values) -> Option<
     let ops = numbering.len()?;
     for (cell, first) in values.firsts.iter().enumerate() {
         if let Some(value) = first {
-            note(&mut writers, *value, ops.checked_add(u32::try_from(cell).ok()?)?)?;
+            note(
+                &mut writers,
+                *value,
+                ops.checked_add(u32::try_from(cell).ok()?)?,
+            )?;
         }
     }
     Some(writers)

@@ -18,11 +18,7 @@ fn swap(cell: u8, old: u64, new: u64) -> Op {
     Op::Rw { cell, old, new }
 }
 
-fn sequences_of(
-    rt: &impl Abort,
-    alloc: Global,
-    lists: &[&[Op]],
-) -> Result<Sequences, Fail> {
+fn sequences_of(rt: &impl Abort, alloc: Global, lists: &[&[Op]]) -> Result<Sequences, Fail> {
     assert!(rt; !lists.is_empty() && lists.len() <= MOST_PROCESSES);
     let mut sequences = Sequences::new(alloc, lists.len())?;
     for (p, list) in lists.iter().enumerate() {
