@@ -1,4 +1,4 @@
-"""How many consistent traces the monitor decides, and how long a question takes: bench/schedules.py PROGRAM [SAMPLES]."""
+"""How many consistent traces the monitor decides, and how long a question takes: bench/schedules.py PROGRAM [SAMPLES [ROWS]]."""
 
 import itertools
 import random
@@ -54,14 +54,33 @@ def synchronized(name, procs, samples):
             yield traces.script(memory, count)
 
 
+def explained(lines):
+    """For each question, whether each value that was read by then was written by then, or is a cell's first one."""
+    missing, known = {}, set()
+    for line in lines:
+        words = line.split()
+        if words[1] == "ask":
+            yield not missing
+        if words[1] != "do":
+            continue
+        kind, cell, values = words[4], words[5], words[6:]
+        if kind != "sw" and values[0] != "0" and (cell, values[0]) not in known:
+            missing[cell, values[0]] = True
+        if kind != "lw":
+            known.add((cell, values[-1]))
+            missing.pop((cell, values[-1]), None)
+
+
 def measure_growth(program, samples):
+    """How many of the questions are decided whose values are all explained; the others have no schedule."""
     for number in range(samples):
         rng = random.Random(number)
         lines = list(traces.growing(rng, 8, 500, 8, 0.5, 10))
         replies, taken = run(program, lines)
         asked = [reply for line, reply in zip(lines, replies) if " ask " in line]
-        undecided = sum(reply.startswith(b"a undecided") for reply in asked)
-        print(f"{'8 x 500, grows':<40} {len(asked) - undecided:>4} of {len(asked):<4} {taken / len(asked):>9.4f}", flush=True)
+        able = [reply for reply, is_able in zip(asked, explained(lines)) if is_able]
+        decided = sum(not reply.startswith(b"a undecided") for reply in able)
+        print(f"{'8 x 500, grows':<40} {decided:>4} of {len(able):<4} {taken / len(asked):>9.4f}", flush=True)
 
 
 def main():
