@@ -56,12 +56,7 @@ impl<B: BookNaming> Model for Desk<B> {
 
 impl<B: BookNaming> Desk<B> {
     /// An empty book, into which nobody entered.
-    pub(crate) fn new(
-        alloc: Global,
-        totals: Token,
-        made: Blank,
-        seat: Seat<Entry, View>,
-    ) -> Desk<B>
+    pub(crate) fn new(alloc: Global, totals: Token, made: Blank, seat: Seat<Entry, View>) -> Desk<B>
         requires seat { (seat.table_id ≡ B.table) × IsKeeper seat.me [] 0 }
         requires made { (made.name ≡ B.made) × (made.parts ≡ B.seats) × (made.parts ≡ MOST_SESSIONS + 1) }
         requires taken { totals.taken.name ≡ B.taken }
