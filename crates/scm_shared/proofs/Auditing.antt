@@ -15,11 +15,11 @@ use Rattle.scm_shared.specs.Audits.{covers, AllFollow, Agree}
 pub all_follow : (journal : List EntryData) (passes : List Known) → All (λ pass. Fits journal pass) passes → AllFollow passes journal
 all_follow journal passes fit = λ k other within. sym (fit k other within).all
 
--- one more pass fits
-pub one_more_fits : (journal : List EntryData) (passes : List Known) (pass : Known) → All (λ p. Fits journal p) passes → Fits journal pass → All (λ p. Fits journal p) (passes ++ pass ∷ [])
-one_more_fits journal passes pass fit mine = All-append (λ (p : Known). Fits journal p) passes (pass ∷ []) fit one
+-- it holds of one more pass
+pub one_more : (P : Known → Type 0) (passes : List Known) (pass : Known) → All P passes → P pass → All P (passes ++ pass ∷ [])
+one_more P passes pass all mine = All-append P passes (pass ∷ []) all one
   where
-    one : (k : ℕ) (d : Known) → k < 1 → Fits journal (get_or (pass ∷ []) k d)
+    one : (k : ℕ) (d : Known) → k < 1 → P (get_or (pass ∷ []) k d)
     one zero d within = mine
     one (suc k) d within = absurd (omega arith)
 

@@ -1,16 +1,16 @@
 -- Passes that fit a history, and what becomes of them in each step.
-use Rattle.std.proofs.Common.{◌≡◌, ◌≢◌, ◌⊎◌, ℕ, zero, suc, ◌+◌, ◌≤◌, List, [], ◌∷◌, ◌++◌, length, set, Bool, true, false, true≢false, refl, sym, ap, ◌∙◌, subst, ⊎_elim, arith, length-append}
+use Rattle.std.proofs.Common.{◌≡◌, ◌≢◌, ◌⊎◌, ℕ, zero, suc, ◌+◌, ◌<◌, ◌≤◌, List, [], ◌∷◌, ◌++◌, length, set, Bool, true, false, true≢false, refl, sym, ap, ◌∙◌, subst, ⊎_elim, arith, length-append}
 use mathlib.Core.Option.{some}
 use mathlib.Core.Logic.{dite}
 use mathlib.Core.List.{IsPrefix}
-use native.Mathlib.Decide.{ℕ_discrete}
+use native.Mathlib.Decide.{ℕ_discrete, dec_lt}
 use lib.ListN.{get_elem?}
 use Rattle.atomic_table.proofs.Lists.{at_set}
 use Rattle.scm_book.specs.Calls.{EntryData}
 use Rattle.scm_book.specs.Callers.{calls_by}
 use Rattle.scm_book.specs.CallerLaws.{calls_by-append, calls_by-entry_own, calls_by-entry_other}
 use Rattle.scm_shared.specs.Passes.{Known, known, newcomer, at_front}
-use Rattle.scm_shared.specs.Rule.{SeatView, keeper, holder, nobody, Fits, AllFit, FitsView, holds}
+use Rattle.scm_shared.specs.Rule.{SeatView, keeper, holder, nobody, Fits, AllFit, AllGiven, FitsView, holds}
 use Rattle.scm_shared.specs.Steps.{but_last, last_only, caught_up, called, all_called, all_caught_up, all_at_front}
 use Rattle.scm_shared.proofs.Sums.{times, mark, mark-same, mark-other, times-cons, times-append, times-one}
 use Rattle.scm_shared.proofs.Prefixes.{prefix_whole, prefix_nothing, prefix_longer, prefix_length}
@@ -39,6 +39,16 @@ times-parted number [] = refl
 times-parted number (p ∷ []) = omega arith
 times-parted number (p ∷ q ∷ passes) =
     omega (arith, times-cons number p (but_last (q ∷ passes)), times-cons number p (q ∷ passes), times-parted number (q ∷ passes))
+
+-- ---- passes whose numbers were given
+
+pub AllGiven-none_late : (entered : ℕ) (passes : List Known) → ((number : ℕ) → entered ≤ number → times number passes ≡ 0) → AllGiven entered passes
+AllGiven-none_late entered [] none = tt
+AllGiven-none_late entered (p ∷ passes) none = (
+  dite (dec_lt p.number entered) (λ given. given)
+      (λ late. let at = none p.number (omega (arith, late)) in let one = mark-same p.number p.number refl in absurd (omega (arith, times-cons p.number p passes, at, one))),
+  AllGiven-none_late entered passes (λ n late. let at = none n late in omega (arith, times-cons n p passes, at)),
+)
 
 -- ---- a new pass
 
@@ -99,8 +109,7 @@ others_fit log entry pass apart fit =
 pub AllFit-others : (log : List EntryData) (entry : EntryData) (passes : List Known) → times entry.session passes ≡ 0 → AllFit log passes → AllFit (log ++ entry ∷ []) passes
 AllFit-others log entry [] none fit = tt
 AllFit-others log entry (p ∷ passes) none fit =
-    let cons = times-cons entry.session p passes in
-    (
+    let cons = times-cons entry.session p passes in (
       others_fit log entry p (λ same. let one = mark-same p.number entry.session (sym same) in absurd (omega (arith, cons, none, one))) fit.0,
       AllFit-others log entry passes (omega (arith, cons, none)) fit.1,
     )

@@ -16,10 +16,10 @@ use Rattle.scm_book.specs.Calls.{EntryData, entry_data}
 use Rattle.scm_book.specs.Callers.{calls_by}
 use Rattle.scm_book.specs.CallerLaws.{calls_by-entry_other}
 use Rattle.scm_shared.specs.Passes.{Known, newcomer}
-use Rattle.scm_shared.specs.Rule.{SeatView, keeper, holder, nobody, Fits, AllFit, FitsView, holds, KeptAs, Kept}
+use Rattle.scm_shared.specs.Rule.{SeatView, keeper, holder, nobody, Fits, AllFit, AllGiven, FitsView, holds, KeptAs, Kept}
 use Rattle.scm_shared.specs.Steps.{with_one_more, next_newcomer, both, staying, parted, called, with_entry, TellsCommit, all_caught_up, TellsHistory, all_at_front, TellsFront}
 use Rattle.scm_shared.proofs.Sums.{sum_by-set, at_most_sum_by, two_at_most_sum_by, times, mark, mark-same, mark-other, times-append, times-one}
-use Rattle.scm_shared.proofs.Fitting.{off, AllFit-append, AllFit-but_last, AllFit-last_only, times-parted, newcomer_fits, AllFit-caught_up, times-caught_up, AllFit-at_front, times-at_front, called_fits, AllFit-others}
+use Rattle.scm_shared.proofs.Fitting.{off, AllFit-append, AllFit-but_last, AllFit-last_only, times-parted, newcomer_fits, AllFit-caught_up, times-caught_up, AllFit-at_front, times-at_front, called_fits, AllFit-others, AllGiven-none_late}
 
 -- the rule of the table
 abbrev Holds : State Entry SeatView → Type 0
@@ -57,6 +57,13 @@ changed words views seat log entered place old new kept at fit same =
       free = λ n late. (sum n ∙ (kept.free n late).0, (kept.free n late).1);
     }
 
+-- the numbers of a seat's passes were given
+all_given : (words : List ℕ) (views : List SeatView) (seat : ℕ) (log : List EntryData) (entered : ℕ) (place : ℕ) (view : SeatView)
+    → KeptAs words views seat log entered → get_elem? views place ≡ some view → AllGiven entered view.passes
+all_given words views seat log entered place view k at =
+    AllGiven-none_late entered view.passes
+    (λ n late. let none = (k.free n late).0 in let few = at_most_sum_by (holds n) views place view at in omega (arith, none, few))
+
 -- ---- the start
 
 pub begins : Kept (0 ∷ []) (keeper [] 0 [] ∷ [])
@@ -87,10 +94,10 @@ enters id view is s kept at =
         word = k.word;
         fits = λ j u e. ⊎_elim
             (λ was. fits_set id view.log (view.entered + 1) s.views id left
-                (λ i v apart there. record { book = λ own. absurd (apart ((k.fits i v there).book own).0); passes = (k.fits i v there).passes })
-                record { book = λ _. (refl, refl, refl); passes = (k.fits id view at).passes } j u was)
+            (λ i v apart there. record { book = λ own. absurd (apart ((k.fits i v there).book own).0); passes = (k.fits i v there).passes })
+            record { book = λ _. (refl, refl, refl); passes = (k.fits id view at).passes } j u was)
             (λ (same : right ≡ u). subst (FitsView id view.log (view.entered + 1) j) same
-                (new_seat_fits id view.log (view.entered + 1) j view.entered (k.free view.entered (omega arith)).1))
+            (new_seat_fits id view.log (view.entered + 1) j view.entered (k.free view.entered (omega arith)).1))
             (at_snoc now right u j e);
         once = λ n. dite (ℕ_discrete view.entered n)
             (λ same. let absent = (k.free n (omega (arith, same))).0 in let one = mark-same view.entered n same in omega (arith, sum n, absent, one))
@@ -122,7 +129,7 @@ takes id view other theirs s kept at apart there =
         word = k.word;
         fits = fits_set seat log entered now other nobody
             (λ j u _ e. fits_set seat log entered s.views id joined (λ i v _ e'. k.fits i v e')
-                record { book = mine.book; passes = AllFit-append log view.passes theirs.passes mine.passes was.passes } j u e)
+            record { book = mine.book; passes = AllFit-append log view.passes theirs.passes mine.passes was.passes } j u e)
             record { book = λ own. absurd (off own); passes = tt };
         once = λ n. let few = k.once n in omega (arith, few, sum n);
         free = λ n late. (sum n ∙ (k.free n late).0, (k.free n late).1);
@@ -148,9 +155,9 @@ parts id view s kept at =
         word = k.word;
         fits = λ j u e. ⊎_elim
             (λ was. fits_set seat log entered s.views id left (λ i v _ e'. k.fits i v e')
-                record { book = mine.book; passes = AllFit-but_last log view.passes mine.passes } j u was)
+            record { book = mine.book; passes = AllFit-but_last log view.passes mine.passes } j u was)
             (λ (same : right ≡ u). subst (FitsView seat log entered j) same
-                record { book = λ own. absurd (off own); passes = AllFit-last_only log view.passes mine.passes })
+            record { book = λ own. absurd (off own); passes = AllFit-last_only log view.passes mine.passes })
             (at_snoc now right u j e);
         once = λ n. let few = k.once n in omega (arith, few, sum n);
         free = λ n late. (sum n ∙ (k.free n late).0, (k.free n late).1);
@@ -178,9 +185,9 @@ learns slots id view is s kept size at small =
         view.log,
         view.entered,
         subst (λ (ws : List ℕ). KeptAs ws (set s.views id new) id view.log view.entered) (sym word.1)
-        (changed s.words s.views id view.log view.entered id view new k at record { book = λ _. (refl, refl, refl); passes = AllFit-caught_up view.log view.passes fit } (λ n. times-caught_up n view.log view.passes)),
+            (changed s.words s.views id view.log view.entered id view new k at record { book = λ _. (refl, refl, refl); passes = AllFit-caught_up view.log view.passes fit } (λ n. times-caught_up n view.log view.passes)),
       ),
-      (refl, fit),
+      (refl, fit, all_given s.words s.views id view.log view.entered id view k at),
     )
 
 pub fronts : (slots id : ℕ) (view : SeatView)
@@ -200,7 +207,7 @@ fronts slots id view s kept size at small =
         log,
         kept.2,
         subst (λ (ws : List ℕ). KeptAs ws (set s.views id new) kept.0 log kept.2) (sym word.1)
-        (changed s.words s.views kept.0 log kept.2 id view new k at record { book = mine.book; passes = AllFit-at_front log found view.passes (sym word.0) mine.passes } (λ n. times-at_front n found view.passes)),
+            (changed s.words s.views kept.0 log kept.2 id view new k at record { book = mine.book; passes = AllFit-at_front log found view.passes (sym word.0) mine.passes } (λ n. times-at_front n found view.passes)),
       ),
       (refl, (log, sym word.0, mine.passes)),
     )
@@ -227,22 +234,22 @@ commits_kept words views id log entered pass entry own at k =
       word = ap (λ (n : ℕ). n ∷ []) (sym (length-append log (entry ∷ [])));
       fits = fits_set id longer entered views id new
           (λ j u apart there.
-              let fit = k.fits j u there in
-              let few = k.once entry.session in
-              let two = two_at_most_sum_by (holds entry.session) views id j old u apart at there in
-              record {
-                book = λ is. absurd (apart (fit.book is).0);
-                passes = AllFit-others log entry u.passes (omega (arith, few, two, here)) fit.passes;
-              })
+          let fit = k.fits j u there in
+          let few = k.once entry.session in
+          let two = two_at_most_sum_by (holds entry.session) views id j old u apart at there in
+          record {
+            book = λ is. absurd (apart (fit.book is).0);
+            passes = AllFit-others log entry u.passes (omega (arith, few, two, here)) fit.passes;
+          })
           record { book = λ _. (refl, refl, refl); passes = (called_fits log entry pass own (k.fits id old at).passes.0, tt) };
       once = λ n. let few = k.once n in omega (arith, few, sum n);
       free = λ n late.
           let f = k.free n late in
           let absent = f.0 in
           let apart : entry.session ≢ n = λ same.
-              let one : holds n old ≡ 1 = subst (λ (m : ℕ). holds m old ≡ 1) same here in
-              let some_there = at_most_sum_by (holds n) views id old at in
-              absurd (omega (arith, one, some_there, absent)) in
+          let one : holds n old ≡ 1 = subst (λ (m : ℕ). holds m old ≡ 1) same here in
+          let some_there = at_most_sum_by (holds n) views id old at in
+          absurd (omega (arith, one, some_there, absent)) in
           (sum n ∙ absent, calls_by-entry_other n log entry apart ∙ f.1);
     }
 
@@ -261,7 +268,7 @@ commits slots id log entered pass entry own s kept size at small =
         log ++ entry_data entry ∷ [],
         entered,
         subst (λ (ws : List ℕ). KeptAs ws (set s.views id new) id (log ++ entry_data entry ∷ []) entered) (sym (next_word s.words (length log) k.word))
-        (commits_kept s.words s.views id log entered pass (entry_data entry) own at k),
+            (commits_kept s.words s.views id log entered pass (entry_data entry) own at k),
       ),
       (refl, (k.fits id old at).passes),
     )

@@ -21,10 +21,10 @@ most_taken old new n tasks taking =
     ⊎_elim
     (λ nothing. let e : length tasks ≡ 0 = ap length nothing.0 in omega (arith, e))
     (λ (one : TakesOfOne old.machine old.sets n tasks new.sets).
-        let hands = one.taken.leads.2 in
-        let few = hands.few in
-        let same = same_length _ hands.pairs tasks hands.tasks in
-        omega (arith, few, same))
+    let hands = one.taken.leads.2 in
+    let few = hands.few in
+    let same = same_length _ hands.pairs tasks hands.tasks in
+    omega (arith, few, same))
     taking.takes.0
 
 -- a delivery of outcomes takes nothing

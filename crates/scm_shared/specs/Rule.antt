@@ -1,6 +1,6 @@
 -- The rule of the counting word. Beside the lock stands a word, the length of the history. Each seat of its table knows
 -- something: the book's seat the whole history, the seat of a pass what the pass has seen.
-use Rattle.std.specs.Prelude.{ℕ, ◌≡◌, ◌≤◌, ⊤, List, [], ◌∷◌, length, Bool, true, false, ◌==◌, count_by}
+use Rattle.std.specs.Prelude.{ℕ, ◌≡◌, ◌<◌, ◌≤◌, ⊤, List, [], ◌∷◌, length, Bool, true, false, ◌==◌, count_by}
 use Rattle.std.specs.List.{sum_by}
 use mathlib.Core.Option.{some}
 use mathlib.Core.List.{IsPrefix}
@@ -42,6 +42,11 @@ pub record Fits (log : List EntryData) (pass : Known) : Type 0 where
 abbrev pub AllFit : List EntryData → List Known → Type 0
 AllFit log [] = ⊤
 AllFit log (pass ∷ others) = Fits log pass × AllFit log others
+
+-- so many passes entered: the numbers of these were given
+abbrev pub AllGiven : ℕ → List Known → Type 0
+AllGiven entered [] = ⊤
+AllGiven entered (pass ∷ others) = (pass.number < entered) × AllGiven entered others
 
 -- only this seat is the book's, and it knows the whole history; every pass fits it
 pub record FitsView (seat : ℕ) (log : List EntryData) (entered : ℕ) (place : ℕ) (view : SeatView) : Type 0 where

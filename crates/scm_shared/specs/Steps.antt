@@ -5,7 +5,7 @@ use Rattle.atomic_table.specs.Table.{Me, Step}
 use Rattle.scm_book.specs.declared.entry.Entry.{Entry}
 use Rattle.scm_book.specs.Calls.{EntryData, entry_data}
 use Rattle.scm_shared.specs.Passes.{Known, known, newcomer, at_front}
-use Rattle.scm_shared.specs.Rule.{SeatView, keeper, holder, nobody, AllFit}
+use Rattle.scm_shared.specs.Rule.{SeatView, keeper, holder, nobody, AllFit, AllGiven}
 
 -- ---- enter: a new pass's seat is split off the book's
 
@@ -72,6 +72,7 @@ abbrev pub TellsHistory : Step Entry → Me Entry SeatView → ℕ → Me Entry 
 TellsHistory step before found after =
     (after ≡ (keeper before.0.log before.0.entered (all_caught_up before.0.log before.0.passes), []))
     × AllFit before.0.log before.0.passes
+    × AllGiven before.0.entered before.0.passes
 
 -- ---- front, meet: a seat of passes looks at the word, without the lock
 

@@ -1,5 +1,5 @@
 //! The end of a shared book: what its passes kept, against its journal.
-ghost use Rattle.std.specs.Prelude.{◌≡◌, ◌+◌, ◌==◌, ◌↔◌, true, All, IsTrue, length, sum_by, vec_len};
+ghost use Rattle.std.specs.Prelude.{◌≡◌, ◌+◌, ◌<◌, ◌==◌, ◌↔◌, true, All, IsTrue, length, sum_by, vec_len};
 ghost use Rattle.std.specs.List.{list_all, list_any};
 ghost use Rattle.scm_results.specs.Tallies.{AddUpTo};
 ghost use Rattle.scm_book.specs.Journal.{IsLegalBook};
@@ -42,9 +42,7 @@ fn is_given<B: BookNaming>(passes: &Vec<Pass<B>>, number: u16) -> bool
 fn is_covered<B: BookNaming>(passes: &Vec<Pass<B>>, entries: &[Entry]) -> bool
     ensures { result ≡ list_all (λ entry. list_any (λ pass. pass.number == entry.session) passes.now.items) entries.now }
 {
-    entries
-        .iter()
-        .all(|entry| is_given(passes, entry.session))
+    entries.iter().all(|entry| is_given(passes, entry.session))
 }
 
 /// Takes a pass apart, which fits the journal.
@@ -57,11 +55,14 @@ fn take_in<B: BookNaming>(
     requires { (seat.old.table_id ≡ B.table) × IsBooks seat.old.me }
     ensures seat { (seat.new.table_id ≡ B.table) × (seat.new.me ≡ seat.old.me) }
     ensures fits { Fits seat.old.me.0.log pass }
+    ensures given { pass.number < seat.old.me.0.entered }
     ensures parts { all.new.parts ≡ all.old.parts + 1 }
     ensures amount { all.new.amount ≡ all.old.amount + length pass.made }
 {
     let Pass {
-        mut badge, share, ..
+        mut badge,
+        share,
+        ..
     } = pass;
     hall.catch_up(seat, &mut badge);
     all.merge(share);
@@ -70,14 +71,13 @@ fn take_in<B: BookNaming>(
 impl<B: BookNaming> Desk<B> {
     /// Takes the desk apart, and compares the passes with the journal and the tallies with the totals. The calls of every pass
     /// are its session's entries anyhow, as the rule of the counting word has it, so what is left to see is whose passes came.
-    pub(crate) fn audit(
-        self,
-        hall: &Hall<B>,
-        passes: Vec<Pass<B>>,
-        tallies: Vec<Tally<B>>,
-    ) -> Audit
+    pub(crate) fn audit(self, hall: &Hall<B>, passes: Vec<Pass<B>>, tallies: Vec<Tally<B>>) -> Audit
+        ensures book { result.book ≡ self.book }
+        ensures entered { result.entered ≡ self.entered }
+        ensures tallies { result.tallies ≡ self.totals.given }
         ensures legal { IsLegalBook result.book }
         ensures fits { All (λ pass. Fits result.book.journal pass) passes.items }
+        ensures numbers { All (λ pass. pass.number < result.entered) passes.items }
         ensures made { vec_len passes ≡ result.entered → sum_by (λ pass. length pass.made) passes.items ≡ length result.book.journal }
         ensures agreed { IsTrue result.agreed ↔ Agree passes.items result.book.journal }
         ensures given { covers passes.items result.book.journal ≡ true → IsTrue result.agreed }

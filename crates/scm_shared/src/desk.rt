@@ -1,10 +1,11 @@
 //! What lies under the lock of a shared book.
-ghost use Rattle.std.specs.Prelude.{◌≡◌, ◌+◌, ◌<◌, ◌≤◌, [], true, IfErr, IfOk, IfSome, MatchResult, vec_len};
+ghost use Rattle.std.specs.Prelude.{◌≡◌, ◌+◌, ◌<◌, ◌≤◌, [], true, IfErr, IfOk, IfSome, None, Some, MatchResult, vec_len};
 ghost use Rattle.scm_sequences.specs.declared.refusal.Refusal.TheVariants.{JournalFull, NoMemory as WithoutMemory, TooManySessions};
 ghost use Rattle.scm_sequences.specs.declared.limits.TheConstants.{MOST_SESSIONS};
 ghost use Rattle.scm_results.specs.Tallies.{nothing_counted};
 ghost use Rattle.scm_book.specs.Calls.{call_data, reply_data, refused};
 ghost use Rattle.scm_book.specs.Journal.{makes_entry};
+ghost use Rattle.scm_book.specs.Workers.{IsTaking, IsDelivery};
 ghost use Rattle.scm_shared.specs.Passes.{newcomer, Extended, SeenFull};
 ghost use Rattle.scm_shared.specs.Seats.{IsKeeper};
 
@@ -14,7 +15,7 @@ use crate::{BookNaming, Made, Pass};
 use atomic_table::Seat;
 use scm_book::{Book, Call, Entry, Reply};
 use scm_expand::{Outcome, Task};
-use scm_results::{Tally, Token, Totals};
+use scm_results::{Results, Tally, Token, Totals};
 use scm_sequences::{MOST_ENTRIES, MOST_SESSIONS, NoMemory, Refusal};
 use std::alloc::Global;
 use std::marker::{Model, PhantomData};
@@ -56,12 +57,7 @@ impl<B: BookNaming> Model for Desk<B> {
 
 impl<B: BookNaming> Desk<B> {
     /// An empty book, into which nobody entered.
-    pub(crate) fn new(
-        alloc: Global,
-        totals: Token,
-        made: Blank,
-        seat: Seat<Entry, View>,
-    ) -> Desk<B>
+    pub(crate) fn new(alloc: Global, totals: Token, made: Blank, seat: Seat<Entry, View>) -> Desk<B>
         requires seat { (seat.table_id ≡ B.table) × IsKeeper seat.me [] 0 }
         requires made { (made.name ≡ B.made) × (made.parts ≡ B.seats) × (made.parts ≡ MOST_SESSIONS + 1) }
         requires taken { totals.taken.name ≡ B.taken }
@@ -131,6 +127,7 @@ impl<B: BookNaming> Desk<B> {
 
     /// Takes at most `n` tasks, and counts them.
     pub(crate) fn take(&mut self, n: usize, tally: &mut Tally<B>) -> Result<Vec<Task>, NoMemory>
+        ensures book { MatchResult result (λ tasks. IsTaking self.old.book n (Some tasks.items) self.new.book) (λ _. IsTaking self.old.book n None self.new.book) }
         ensures most { IfOk result (λ tasks. vec_len tasks ≤ n) }
         ensures taken { IfOk result (λ tasks. tally.new.taken ≤ tally.old.taken + vec_len tasks) }
         ensures delivered { tally.new.delivered ≡ tally.old.delivered }
@@ -141,13 +138,15 @@ impl<B: BookNaming> Desk<B> {
         Ok(tasks)
     }
 
-    /// Delivers outcomes, and counts what became of them.
-    pub(crate) fn deliver(&mut self, outcomes: Vec<Outcome>, tally: &mut Tally<B>)
-        ensures { tally.new.taken ≡ tally.old.taken }
+    /// Delivers outcomes, and counts what became of them, which it gives.
+    pub(crate) fn deliver(&mut self, outcomes: Vec<Outcome>, tally: &mut Tally<B>) -> Results
+        ensures book { IsDelivery self.old.book outcomes.items result self.new.book }
+        ensures taken { tally.new.taken ≡ tally.old.taken }
     {
         let _counted = self.totals.results();
         let delivered = self.book.deliver(outcomes);
         self.totals.add(&delivered, tally);
+        delivered
     }
 
     /// A new tally.

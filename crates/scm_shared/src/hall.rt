@@ -1,5 +1,5 @@
 //! The counting word beside the lock, and all that is done with it.
-ghost use Rattle.std.specs.Prelude.{◌≡◌, ◌+◌, ◌≤◌, ◌⊎◌, true, [], ◌∷◌, ◌++◌, length};
+ghost use Rattle.std.specs.Prelude.{◌≡◌, ◌+◌, ◌<◌, ◌≤◌, ◌⊎◌, true, [], ◌∷◌, ◌++◌, length};
 ghost use mathlib.Core.List.{IsPrefix};
 ghost use Rattle.scm_book.specs.Calls.{entry_data};
 ghost use Rattle.scm_shared.specs.Passes.{newcomer, at_front};
@@ -75,6 +75,7 @@ impl<B: BookNaming> Hall<B> {
         ensures seat { (seat.new.table_id ≡ B.table) × (seat.new.me ≡ seat.old.me) }
         ensures badge { (badge.new.table_id ≡ B.table) × IsPassOf badge.new.views (caught_up seat.old.me.0.log (known_in badge.old.views)) }
         ensures fits { Fits seat.old.me.0.log (known_in badge.old.views) }
+        ensures given { (known_in badge.old.views).number < seat.old.me.0.entered }
     {
         self.join(seat, badge);
         self.table.shared.load::<Learns>(seat, 0);

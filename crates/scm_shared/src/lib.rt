@@ -11,6 +11,8 @@ mod shared_book;
 mod tests;
 mod token;
 mod word;
+#[cfg(test)]
+mod worker_tests;
 
 pub use audit::Audit;
 pub use naming::{BookNaming, Made};

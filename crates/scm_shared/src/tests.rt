@@ -1,7 +1,7 @@
 //! What no clause says: that calls succeed, and that `front` and `meet` show what other passes did.
 ghost use Rattle.std.specs.Prelude.{◌≡◌};
 
-use crate::{BookNaming, BookToken, Pass, SharedBook};
+use crate::{Audit, BookNaming, BookToken, Pass, SharedBook};
 use scm_book::{Call, Reply};
 use scm_sequences::{MOST_SESSIONS, Refusal};
 use std::alloc::Global;
@@ -54,13 +54,13 @@ fn front_of_other(rt: HostRuntime) -> Result<(), Fail> {
     Ok(())
 }
 
-/// What two passes find when they meet, before and after a third one calls; what both have seen then; and whether the audit of
-/// all three agrees.
+/// What two passes find when they meet, before and after a third one calls; what both have seen then; and the audit of all
+/// three.
 fn meetings<B: BookNaming>(
     rt: &impl Wait,
     alloc: Global,
     token: BookToken,
-) -> Result<([u64; 4], bool), Fail>
+) -> Result<([u64; 4], Audit), Fail>
     requires table { token.table.shared.table_id ≡ B.table }
     requires made { (token.made.name ≡ B.made) × (token.made.parts ≡ B.seats) }
     requires totals { (token.totals.taken.name ≡ B.taken) × (token.totals.delivered.name ≡ B.delivered) × (token.totals.taken.parts ≡ B.parts) }
@@ -81,15 +81,16 @@ fn meetings<B: BookNaming>(
     passes.push(zero)?;
     passes.push(one)?;
     passes.push(two)?;
-    let audit = shared.audit(passes, Vec::new(alloc));
-    Ok((found, audit.agreed && audit.totals_agreed))
+    Ok((found, shared.audit(passes, Vec::new(alloc))))
 }
 
 #[test]
 fn passes_meet(rt: HostRuntime) -> Result<(), Fail> {
-    let (found, agreed) = meetings::<Brand>(&rt, rt.alloc(), BookToken::new(rt.alloc())?)?;
+    let (found, audit) = meetings::<Brand>(&rt, rt.alloc(), BookToken::new(rt.alloc())?)?;
     assert!(rt; found == [4, 5, 5, 5]);
-    assert!(rt; agreed);
+    assert!(rt; audit.agreed && audit.totals_agreed);
+    assert_eq!(rt; audit.entered, 3);
+    assert_eq!(rt; audit.tallies, 0);
     Ok(())
 }
 
@@ -112,6 +113,36 @@ fn held_back<B: BookNaming>(rt: &impl Wait, alloc: Global, token: BookToken) -> 
 #[test]
 fn a_missing_pass_shows(rt: HostRuntime) -> Result<(), Fail> {
     assert!(rt; !held_back::<Brand>(&rt, rt.alloc(), BookToken::new(rt.alloc())?)?);
+    Ok(())
+}
+
+/// The audit with no passes, where two entered and one of them made three calls; and its front then.
+fn none_handed_in<B: BookNaming>(
+    rt: &impl Wait,
+    alloc: Global,
+    token: BookToken,
+) -> Result<(u64, Audit), Fail>
+    requires table { token.table.shared.table_id ≡ B.table }
+    requires made { (token.made.name ≡ B.made) × (token.made.parts ≡ B.seats) }
+    requires totals { (token.totals.taken.name ≡ B.taken) × (token.totals.delivered.name ≡ B.delivered) × (token.totals.taken.parts ≡ B.parts) }
+{
+    let shared = SharedBook::<B>::new(alloc, token);
+    let mut one = entered(rt, &shared)?;
+    let _other = entered(rt, &shared)?;
+    list(rt, &shared, &mut one)?;
+    list(rt, &shared, &mut one)?;
+    list(rt, &shared, &mut one)?;
+    let front = shared.front(&mut one);
+    Ok((front, shared.audit(Vec::new(alloc), Vec::new(alloc))))
+}
+
+#[test]
+fn an_audit_of_no_passes(rt: HostRuntime) -> Result<(), Fail> {
+    let (front, audit) = none_handed_in::<Brand>(&rt, rt.alloc(), BookToken::new(rt.alloc())?)?;
+    assert_eq!(rt; front, 3);
+    assert_eq!(rt; audit.entered, 2);
+    assert_eq!(rt; audit.book.entries().len(), 3);
+    assert!(rt; !audit.agreed);
     Ok(())
 }
 

@@ -24,4 +24,4 @@ returns-in-Some-clause-made g c makes =
     (ap (λ (k : Known). k.made) c.pass.view_is) kept.same_call kept.same_reply in
     let all = committed c.entries-entries.result.now c.index-entries-count.result _ _ log c.call_kept-reply.new.self.journal _ c.entries-entries.ensures.entries (c.call_kept-reply.ensures.called.entry makes) refl c.index-entries-count.is in
     extended c.args.pass.now log c.call_kept-reply.new.self.journal c.call_kept-reply.new.self.machine (call_data c.args.call) (reply_data c.call_kept-reply.result.0) _ _ _ _
-        fit entry c.call_kept-reply.ensures.legal number made (ap (λ (views : List SeatView). (known_in views).seen) c.commit.ensures.badge.1 ∙ ap (λ (l : List EntryData). l ++ entry_data c.index-entries-count.result ∷ []) whole ∙ all) (sym (length-map c.entries-entries.result.now entry_data) ∙ ap length c.entries-entries.ensures.entries)
+    fit entry c.call_kept-reply.ensures.legal number made (ap (λ (views : List SeatView). (known_in views).seen) c.commit.ensures.badge.1 ∙ ap (λ (l : List EntryData). l ++ entry_data c.index-entries-count.result ∷ []) whole ∙ all) (sym (length-map c.entries-entries.result.now entry_data) ∙ ap length c.entries-entries.ensures.entries)
