@@ -10,8 +10,8 @@ ghost use Rattle.scm_sessions.specs.JournalText.{AreNamed};
 ghost use Rattle.scm_sessions.specs.Script.{script_state, AnswersLine, RunsWhole, RunsWholeLines, RunsPart};
 
 use crate::reading::{Cut, LineReader};
-use crate::sessions::Sessions;
 use crate::replies::send_reply;
+use crate::sessions::Sessions;
 use crate::{Port, RunFault};
 use scm_book::Book;
 use scm_cells::Name;
