@@ -15,14 +15,31 @@ ghost use Rattle.scm_book.specs.Verdicts.{Fits};
 use crate::Reply;
 use crate::fixing::fixed_names;
 use scm_cells::Cells;
-use scm_proposals::propose;
+use scm_proposals::{is_near_end, propose};
 use scm_reach::Reach;
 use scm_schedules::is_legal;
-use scm_sequences::{Lengths, MOST_CELLS, Sequences};
+use scm_sequences::{Lengths, MOST_CELLS, MOST_PROCESSES, Sequences};
 use std::alloc::Global;
 
+/// Whether a search is likely to be short, since its first way from the newest situation leads to the end. So a trace that
+/// grows from question to question goes on from what is held. Nothing rests on it.
+fn is_search_short(reach: &Reach, sequences: &Sequences, lengths: &Lengths) -> Option<bool> {
+    let newest = reach.held().checked_sub(1)?;
+    let situation = reach.situation(newest).ok()?;
+    let mut counts = [0; MOST_PROCESSES];
+    for p in 0..situation.procs() {
+        *counts.get_mut(p)? = situation.count(p);
+    }
+    let mut contents = [None; MOST_CELLS];
+    for c in 0..situation.cells() {
+        *contents.get_mut(c)? = situation.value(c);
+    }
+    let counts = counts.get_mut(..situation.procs())?;
+    Some(is_near_end(counts, &mut contents, sequences, lengths))
+}
+
 /// A legal schedule of the trace with these cells and sequences, cut to these lengths, where one was proposed. `None`
-/// also where the set has the answer already, where no proposal was legal, and where memory is refused.
+/// also where the set has the answer already or is near to it, where no proposal was legal, and where memory is refused.
 fn proposed(
     alloc: Global,
     cells: &Cells,
@@ -35,6 +52,9 @@ fn proposed(
     ensures { IfSome result (λ schedule. IsSchedule (cut_to (trace_of (initials_of cells.now) sequences.now) lengths.now) (reverse schedule.items)) }
 {
     if reach.holds_whole(sequences, lengths) || !reach.is_open(sequences) {
+        return None;
+    }
+    if is_search_short(reach, sequences, lengths)? {
         return None;
     }
     prove!(cells.len() <= MOST_CELLS);

@@ -4,6 +4,7 @@
 
 mod choosing;
 mod clocks;
+mod ending;
 mod facts;
 mod flags;
 mod grid;
@@ -19,6 +20,7 @@ mod values;
 mod walk;
 mod writes;
 
+pub use ending::is_near_end;
 pub use proposal::propose;
 
 #[cfg(test)]

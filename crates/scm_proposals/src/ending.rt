@@ -1,0 +1,63 @@
+//! Whether a trace's end is near: then no proposal is needed.
+use scm_sequences::{Lengths, Op, Sequences};
+
+/// The most operations that are left near the end.
+const MOST_LEFT: u32 = 64;
+
+/// Whether the operations that are left after these counts can be made one after the other, each the first that is legal,
+/// by the order of processes, where the cells hold this. False too where many are left. Counts and contents are used up.
+///
+/// A search that begins there and looks at the newest situation first goes just this way. Nothing is promised.
+pub fn is_near_end(
+    counts: &mut [u32],
+    contents: &mut [Option<u64>],
+    sequences: &Sequences,
+    lengths: &Lengths,
+) -> bool {
+    for _ in 0..=MOST_LEFT {
+        let Some((p, op)) = next_legal(counts, contents, sequences, lengths) else {
+            return counts
+                .iter()
+                .enumerate()
+                .all(|(p, count)| p < lengths.procs() && *count == lengths.get(p));
+        };
+        if make(counts, contents, p, op).is_none() {
+            return false;
+        }
+    }
+    false
+}
+
+/// The first process whose next operation is there and legal, with that operation.
+fn next_legal(
+    counts: &[u32],
+    contents: &[Option<u64>],
+    sequences: &Sequences,
+    lengths: &Lengths,
+) -> Option<(usize, Op)> {
+    for (p, count) in counts.iter().enumerate() {
+        if let Some(op) = next_of(p, *count, sequences, lengths) {
+            if op.finds(*contents.get(op.cell())?) {
+                return Some((p, op));
+            }
+        }
+    }
+    None
+}
+
+/// The next operation of process `p` within the lengths.
+fn next_of(p: usize, count: u32, sequences: &Sequences, lengths: &Lengths) -> Option<Op> {
+    if p < lengths.procs() && count < lengths.get(p) {
+        sequences.next(p, count as usize)
+    } else {
+        None
+    }
+}
+
+/// Makes the next operation of process `p`.
+fn make(counts: &mut [u32], contents: &mut [Option<u64>], p: usize, op: Op) -> Option<()> {
+    let count = counts.get_mut(p)?;
+    *count = count.checked_add(1)?;
+    *contents.get_mut(op.cell())? = Some(op.value_after());
+    Some(())
+}
