@@ -16,10 +16,8 @@ pub fn is_near_end(
 ) -> bool {
     for _ in 0..=MOST_LEFT {
         let Some((p, op)) = next_legal(counts, contents, sequences, lengths) else {
-            return counts
-                .iter()
-                .enumerate()
-                .all(|(p, count)| p < lengths.procs() && *count == lengths.get(p));
+            return counts.iter().enumerate().all(|(p, count)| p < lengths.procs()
+                && *count == lengths.get(p));
         };
         if make(counts, contents, p, op).is_none() {
             return false;
