@@ -21,10 +21,16 @@ use scm_schedules::is_legal;
 use scm_sequences::{Lengths, MOST_CELLS, MOST_PROCESSES, Sequences};
 use std::alloc::Global;
 
-/// Whether a search is likely to be short, since its first way from the newest situation leads to the end. So a trace that
-/// grows from question to question goes on from what is held. Nothing rests on it.
-fn is_search_short(reach: &Reach, sequences: &Sequences, lengths: &Lengths) -> Option<bool> {
+/// Whether a search is likely to be short, since its first way from the newest situation leads to the end, within the limit
+/// of situations. So a trace that grows from question to question goes on from what is held. Nothing rests on it.
+fn is_search_short(
+    reach: &Reach,
+    sequences: &Sequences,
+    lengths: &Lengths,
+    limit: usize,
+) -> Option<bool> {
     let newest = reach.held().checked_sub(1)?;
+    let room = limit.checked_sub(reach.held())?;
     let situation = reach.situation(newest).ok()?;
     let mut counts = [0; MOST_PROCESSES];
     for p in 0..situation.procs() {
@@ -35,7 +41,7 @@ fn is_search_short(reach: &Reach, sequences: &Sequences, lengths: &Lengths) -> O
         *contents.get_mut(c)? = situation.value(c);
     }
     let counts = counts.get_mut(..situation.procs())?;
-    Some(is_near_end(counts, &mut contents, sequences, lengths))
+    Some(is_near_end(counts, &mut contents, sequences, lengths, room))
 }
 
 /// A legal schedule of the trace with these cells and sequences, cut to these lengths, where one was proposed. `None`
@@ -46,6 +52,7 @@ fn proposed(
     reach: &Reach,
     sequences: &Sequences,
     lengths: &Lengths,
+    limit: usize,
 ) -> Option<Vec<u8>>
     requires within { IsWithin lengths.now (lengths_of sequences.now) }
     requires names { NamesCellsBelow (length (initials_of cells.now)) sequences.now }
@@ -54,7 +61,7 @@ fn proposed(
     if reach.holds_whole(sequences, lengths) || !reach.is_open(sequences) {
         return None;
     }
-    if is_search_short(reach, sequences, lengths)? {
+    if is_search_short(reach, sequences, lengths, limit)? {
         return None;
     }
     prove!(cells.len() <= MOST_CELLS);
@@ -75,6 +82,7 @@ pub(crate) fn proposal(
     reach: &Reach,
     sequences: &Sequences,
     lengths: &Lengths,
+    limit: usize,
 ) -> Option<Reply>
     requires within { IsWithin lengths.now (lengths_of sequences.now) }
     requires names { NamesCellsBelow (length (initials_of cells.now)) sequences.now }
@@ -83,7 +91,7 @@ pub(crate) fn proposal(
     ensures plain { IfSome result (λ reply. (situations : List Situated) → reply_data reply ≢ because situations) }
     ensures refuted { IfSome result (λ reply. reply_data reply ≢ inconsistent) }
 {
-    let schedule = proposed(alloc, cells, reach, sequences, lengths)?;
+    let schedule = proposed(alloc, cells, reach, sequences, lengths, limit)?;
     let Ok(fixed) = fixed_names(alloc, cells, sequences, &schedule) else {
         return None;
     };

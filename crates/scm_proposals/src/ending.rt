@@ -2,10 +2,11 @@
 use scm_sequences::{Lengths, Op, Sequences};
 
 /// The most operations that are left near the end.
-const MOST_LEFT: u32 = 64;
+const MOST_LEFT: usize = 64;
 
 /// Whether the operations that are left after these counts can be made one after the other, each the first that is legal,
-/// by the order of processes, where the cells hold this. False too where many are left. Counts and contents are used up.
+/// by the order of processes, where the cells hold this. False too where more than `most`, or many, are left. Counts and
+/// contents are used up.
 ///
 /// A search that begins there and looks at the newest situation first goes just this way. Nothing is promised.
 pub fn is_near_end(
@@ -13,8 +14,9 @@ pub fn is_near_end(
     contents: &mut [Option<u64>],
     sequences: &Sequences,
     lengths: &Lengths,
+    most: usize,
 ) -> bool {
-    for _ in 0..=MOST_LEFT {
+    for _ in 0..=most.min(MOST_LEFT) {
         let Some((p, op)) = next_legal(counts, contents, sequences, lengths) else {
             return counts.iter().enumerate().all(|(p, count)| p < lengths.procs()
                 && *count == lengths.get(p));

@@ -241,7 +241,7 @@ fn joining_late(rt: HostRuntime) {
                 "a why late",
                 "a because 12 0,0/?,?,? 0,1/?,1,? 0,2/42,1,? 0,3/42,1,7 1,0/?,?,7 1,1/?,1,7 1,2/42,1,7 1,3/42,1,7 2,0/?,1,7 2,1/?,1,7 2,2/42,1,7 2,3/42,1,7",
             ),
-            ("a ask late 0", "a consistent 4 0 1 1 1 with data=42 flag=1"),
+            ("a ask late 0", "a consistent 4 1 1 0 1 with data=42 flag=1"),
             ("a open torn 2 100 x:w=?", "a ok"),
             ("a claim torn 0", "a ok"),
             ("b claim torn 1", "b ok"),
