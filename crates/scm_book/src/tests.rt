@@ -148,8 +148,8 @@ fn calls_are_copied_and_made(rt: HostRuntime) -> Result<(), Fail> {
         }
         .copy()?,
     );
-    assert!(rt; matches!(verdict.copy()?, Reply::Undecided));
-    assert!(rt; matches!(kept, Some((Call::Ask { .. }, Reply::Undecided))));
+    assert!(rt; matches!(verdict.copy()?, Reply::Consistent { .. }));
+    assert!(rt; matches!(kept, Some((Call::Ask { .. }, Reply::Consistent { .. }))));
     Ok(())
 }
 
