@@ -295,7 +295,7 @@ impl Book {
     /// `NoSuchMark`. The counter needs room, as `has_room` says; what it rises by is counted in the book's total too. What
     /// was found out stays for the next questions, and isn't paid for again: at most two steps more are made than pairs of
     /// a situation and a process are looked at for the first time, and none where a situation with every operation is held
-    /// or all was looked at, as it is once the same question was answered with anything but `Undecided`.
+    /// or all was looked at, as it is once the same question was refuted.
     pub fn ask(&mut self, session: u16, name: Name, mark: Option<u64>, steps: &mut Steps) -> Reply
         requires room { HasRoomFor self.old.machine name steps.old }
         ensures called { IsCall self.old session (asks name mark) (reply_data result) self.new }
