@@ -1,5 +1,5 @@
 -- What is known of the operation at a place from what it read or wrote.
-use Rattle.std.proofs.Common.{ℕ, ◌≡◌, ◌<◌, List, length, Option, None, Some, IsSome, option_and_then, refl, sym, ap, ◌∙◌, subst, ⊎_elim}
+use Rattle.std.proofs.Common.{ℕ, ◌≡◌, ◌<◌, true, false, List, length, Option, None, Some, IsSome, option_and_then, refl, sym, ap, ◌∙◌, subst, ⊎_elim}
 use Rattle.std.proofs.lemmas.Bool.{cases_eq}
 use Rattle.scm_sequences.specs.declared.op.Op.{Op}
 use Rattle.scm_sequences.specs.Ops.{cell_of, read_of, written_to}
@@ -11,7 +11,8 @@ use Rattle.scm_orders.specs.declared.edge.Edge.{Edge}
 use Rattle.scm_orders.specs.Places.{operation_at, read_at, written_at}
 use Rattle.scm_orders.specs.Following.{SeesOnly, IsOnlySource, ReadsFirst, IsBeforeWrites}
 
-pub none_is : {A : Type 0} → IsSome {T = A} None → ⊥
+-- what `IsSome` says of nothing
+pub none_is : false ≡ true → ⊥
 none_is h = cc
 
 pub is_some_at : {A : Type 0} (o : Option A) (x : A) → o ≡ Some x → IsSome o

@@ -30,7 +30,7 @@ none_left t edges refuting consistent = go (slice_get edges (length edges - 1)) 
   go (Some edge) is ends =
       let s : List ℕ = consistent.schedule in
       let holds : Holds t s edge = subst (Holds t s) (get_or_from_slice_get edges (length edges - 1) edge edge is)
-          (all_hold t edges s refuting.follow consistent.is_schedule (length edges - 1) edge (slice_get_within edges (length edges - 1) edge is)) in
+      (all_hold t edges s refuting.follow consistent.is_schedule (length edges - 1) edge (slice_get_within edges (length edges - 1) edge is)) in
       let less : moment s edge.from < moment s edge.to = holds.before in
       let same : moment s edge.from ≡ moment s edge.to = ap (moment s) ends in
       omega arith

@@ -45,8 +45,8 @@ last_write t (p ∷ earlier) cell value is = go (written_at t (newest p earlier)
       wrote = found.wrote;
       last = λ x inside writes. ⊎_elim
           (λ in'. let a : moment (p ∷ earlier) x ≡ moment earlier x = moment-earlier p earlier x in' in
-            let b : moment (p ∷ earlier) found.write ≡ moment earlier found.write = moment-earlier p earlier found.write found.inside in
-            let known : moment earlier x ≤ moment earlier found.write = found.last x in' writes in omega arith)
+          let b : moment (p ∷ earlier) found.write ≡ moment earlier found.write = moment-earlier p earlier found.write found.inside in
+          let known : moment earlier x ≤ moment earlier found.write = found.last x in' writes in omega arith)
           (λ past. absurd (none_is (subst IsSome (ap (λ y. written_at t y cell) (is_newest p earlier x inside past) ∙ here) writes)))
           (cases_lt x.at (count_in earlier x.process));
     }
@@ -117,9 +117,9 @@ SeesWrite-longer t p earlier cell value read in_read found =
       before = omega (arith, found.before);
       last = λ x inside writes sooner. ⊎_elim
           (λ in'. let same : moment (p ∷ earlier) x ≡ moment earlier x = moment-earlier p earlier x in' in
-            let known : moment earlier x ≤ moment earlier found.write = found.last x in' writes (omega arith) in omega arith)
+          let known : moment earlier x ≤ moment earlier found.write = found.last x in' writes (omega arith) in omega arith)
           (λ past. let top : moment (p ∷ earlier) x ≡ length earlier = moment-newest p earlier x past in
-            let below : moment earlier read < length earlier = moment-below earlier read in_read in absurd (omega arith))
+          let below : moment earlier read < length earlier = moment-below earlier read in_read in absurd (omega arith))
           (cases_lt x.at (count_in earlier x.process));
     }
 
@@ -129,10 +129,10 @@ SeesNone-longer t p earlier cell read in_read found =
     record {
       none = λ x inside writes. ⊎_elim
           (λ in'. let same : moment (p ∷ earlier) x ≡ moment earlier x = moment-earlier p earlier x in' in
-            let known : moment earlier read ≤ moment earlier x = found.none x in' writes in omega arith)
+          let known : moment earlier read ≤ moment earlier x = found.none x in' writes in omega arith)
           (λ past. let top : moment (p ∷ earlier) x ≡ length earlier = moment-newest p earlier x past in
-            let below : moment earlier read < length earlier = moment-below earlier read in_read in omega arith)
-          (cases_lt x.at (count_in earlier x.process))
+          let below : moment earlier read < length earlier = moment-below earlier read in_read in omega arith)
+          (cases_lt x.at (count_in earlier x.process));
     }
 
 SeesNone-shorter : (t : Trace) (p : ℕ) (earlier : List ℕ) (cell : ℕ) (read : Place) → IsIn earlier read → SeesNone t (p ∷ earlier) cell read → SeesNone t earlier cell read
@@ -141,7 +141,7 @@ SeesNone-shorter t p earlier cell read in_read found =
     record {
       none = λ x inside writes.
           let same : moment (p ∷ earlier) x ≡ moment earlier x = moment-earlier p earlier x inside in
-          let known : moment (p ∷ earlier) read ≤ moment (p ∷ earlier) x = found.none x (IsIn-earlier p earlier x inside) writes in omega arith
+          let known : moment (p ∷ earlier) read ≤ moment (p ∷ earlier) x = found.none x (IsIn-earlier p earlier x inside) writes in omega arith;
     }
 
 -- the newest place sees what was written last, or no write
@@ -163,7 +163,7 @@ newest_sees t p earlier cell value legal reads = go (last_written t earlier cell
         before = omega arith;
         last = λ x inside writes sooner. ⊎_elim
             (λ in'. let same : moment (p ∷ earlier) x ≡ moment earlier x = moment-earlier p earlier x in' in
-              let known : moment earlier x ≤ moment earlier found.write = found.last x in' writes in omega arith)
+            let known : moment earlier x ≤ moment earlier found.write = found.last x in' writes in omega arith)
             (λ past. let latest : moment (p ∷ earlier) x ≡ length earlier = moment-newest p earlier x past in absurd (omega arith))
             (cases_lt x.at (count_in earlier x.process));
       }
@@ -173,7 +173,7 @@ newest_sees t p earlier cell value legal reads = go (last_written t earlier cell
     none = λ x inside writes. ⊎_elim
         (λ in'. absurd (none_written t earlier cell none x in' writes))
         (λ past. let latest : moment (p ∷ earlier) x ≡ length earlier = moment-newest p earlier x past in let last_one : moment (p ∷ earlier) (newest p earlier) ≡ length earlier = top in omega arith)
-        (cases_lt x.at (count_in earlier x.process))
+        (cases_lt x.at (count_in earlier x.process));
   }
 
   go : (o : Option ℕ) → last_written t earlier cell ≡ o → option_or (option_or o (option_or (initial_of t cell) (first_read t earlier cell))) (Some value) ≡ Some value

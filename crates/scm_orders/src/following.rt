@@ -127,13 +127,7 @@ fn is_hiding(trace: &CutTrace<'_>, from: Place, to: Place, a: Edge, b: Edge) -> 
 }
 
 // Whether `to` is the source of a read, and `from`, another write of the cell, stands before that read.
-fn is_before_read(
-    trace: &CutTrace<'_>,
-    from: Place,
-    to: Place,
-    source: Edge,
-    before: Edge,
-) -> bool
+fn is_before_read(trace: &CutTrace<'_>, from: Place, to: Place, source: Edge, before: Edge) -> bool
     ensures { IsTrue result ↔ IsBeforeRead trace.now from to source before }
 {
     source.reason.is_source()
@@ -145,13 +139,7 @@ fn is_before_read(
 }
 
 // Whether `from` reads what its source wrote, and that stands before `to`, another write of the cell.
-fn is_overwritten(
-    trace: &CutTrace<'_>,
-    from: Place,
-    to: Place,
-    source: Edge,
-    before: Edge,
-) -> bool
+fn is_overwritten(trace: &CutTrace<'_>, from: Place, to: Place, source: Edge, before: Edge) -> bool
     ensures { IsTrue result ↔ IsOverwritten trace.now from to source before }
 {
     source.reason.is_source()

@@ -4,9 +4,9 @@ ghost use Rattle.scm_sequences.specs.Traces.{cut_to, trace_of};
 ghost use Rattle.scm_sequences.specs.Fronts.{IsConsistent};
 ghost use Rattle.scm_orders.specs.Refuting.{AllFollow, IsRefutingList};
 
+use crate::Edge;
 use crate::cut_trace::CutTrace;
 use crate::following::follows;
-use crate::Edge;
 use scm_sequences::{Lengths, Sequences};
 
 /// Whether these edges refute the trace with these first contents and these sequences, cut to these lengths: each edge

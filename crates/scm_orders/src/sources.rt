@@ -57,13 +57,7 @@ pub(crate) fn writes_what_is_read(trace: &CutTrace<'_>, write: Place, read: Plac
 }
 
 // Whether the edge shows that a read of this value of the cell doesn't see first contents.
-fn rules_out_first(
-    trace: &CutTrace<'_>,
-    cell: usize,
-    value: u64,
-    edge: &Edge,
-    read: Place,
-) -> bool
+fn rules_out_first(trace: &CutTrace<'_>, cell: usize, value: u64, edge: &Edge, read: Place) -> bool
     ensures { IsTrue result ↔ RulesOutFirst trace.now cell value edge.now read }
 {
     edge.to == read

@@ -80,7 +80,12 @@ fn refuted(
 
 // Each of two processes writes its own cell and then reads 0 from the other's.
 fn store_buffering() -> [(usize, Op); 4] {
-    [(0, write(0, 1)), (0, read(1, 0)), (1, write(1, 1)), (1, read(0, 0))]
+    [
+        (0, write(0, 1)),
+        (0, read(1, 0)),
+        (1, write(1, 1)),
+        (1, read(0, 0)),
+    ]
 }
 
 fn store_buffering_cycle() -> [Edge; 7] {
@@ -101,7 +106,12 @@ fn cycles_of_forbidden_outcomes_refute(rt: HostRuntime) -> Result<(), Fail> {
     let zeros = [Some(0), Some(0)];
     let buffering = store_buffering_cycle();
     assert!(rt; refuted(alloc, &zeros, &store_buffering(), &buffering)?);
-    let passing = [(0, write(0, 1)), (0, write(1, 1)), (1, read(1, 1)), (1, read(0, 0))];
+    let passing = [
+        (0, write(0, 1)),
+        (0, write(1, 1)),
+        (1, read(1, 1)),
+        (1, read(0, 0)),
+    ];
     let passing_cycle = [
         program(0, 0, 1),
         source((0, 1), (1, 0)),
@@ -112,7 +122,12 @@ fn cycles_of_forbidden_outcomes_refute(rt: HostRuntime) -> Result<(), Fail> {
         joined((0, 0), (0, 0), 5, 3),
     ];
     assert!(rt; refuted(alloc, &zeros, &passing, &passing_cycle)?);
-    let loads = [(0, read(0, 1)), (0, write(1, 1)), (1, read(1, 1)), (1, write(0, 1))];
+    let loads = [
+        (0, read(0, 1)),
+        (0, write(1, 1)),
+        (1, read(1, 1)),
+        (1, write(0, 1)),
+    ];
     let loads_cycle = [
         source((1, 1), (0, 0)),
         program(0, 0, 1),
@@ -123,7 +138,12 @@ fn cycles_of_forbidden_outcomes_refute(rt: HostRuntime) -> Result<(), Fail> {
         joined((1, 1), (1, 1), 5, 3),
     ];
     assert!(rt; refuted(alloc, &zeros, &loads, &loads_cycle)?);
-    let coherence = [(0, write(0, 1)), (0, write(0, 2)), (1, read(0, 2)), (1, read(0, 1))];
+    let coherence = [
+        (0, write(0, 1)),
+        (0, write(0, 2)),
+        (1, read(0, 2)),
+        (1, read(0, 1)),
+    ];
     let coherence_cycle = [
         source((0, 1), (1, 0)),
         program(1, 0, 1),
@@ -234,11 +254,23 @@ fn foreign_lists_are_judged(rt: HostRuntime) -> Result<(), Fail> {
     assert!(rt; !refuted(alloc, &zeros, &operations, &later)?);
     let itself = [joined((0, 0), (0, 0), 0, 0)];
     assert!(rt; !refuted(alloc, &zeros, &operations, &itself)?);
-    let two_writes = [(0, write(0, 1)), (1, write(0, 1)), (2, read(0, 1)), (2, write(0, 2))];
+    let two_writes = [
+        (0, write(0, 1)),
+        (1, write(0, 1)),
+        (2, read(0, 1)),
+        (2, write(0, 2)),
+    ];
     let guessed = [source((0, 0), (2, 0)), source((0, 0), (0, 0))];
     assert!(rt; !refuted(alloc, &zeros, &two_writes, &guessed)?);
     assert!(rt; !refuted(alloc, &zeros, &[(0, write(0, 1))], &[program(0, 0, 0)])?);
-    assert!(rt; !refuted(alloc, &zeros, &[(0, read(0, 0))], &[initial((0, 0), (0, 0))])?);
+    assert!(rt;
+        !refuted(
+            alloc,
+            &zeros,
+            &[(0, read(0, 0))],
+            &[initial((0, 0), (0, 0))]
+        )?
+    );
     Ok(())
 }
 

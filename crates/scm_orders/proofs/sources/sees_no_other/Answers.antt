@@ -15,6 +15,6 @@ loop-p-preserved c =
 
 pub returns : goal.returns
 returns c = (
-  (λ _ w wrote. c.loop-p.invariant w.process (omega (arith, c.loop-p-test.false, c.procs.ensures.procs, written_within c.args.trace.now w c.args.cell c.args.value wrote)) w.at wrote),
+  (λ _ w wrote. c.loop-p.invariant w.process (omega (arith, c.loop-p-test.false, c.procs-p-end.ensures.procs, written_within c.args.trace.now w c.args.cell c.args.value wrote)) w.at wrote),
   (λ _. refl),
 )
