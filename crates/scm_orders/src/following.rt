@@ -97,8 +97,8 @@ fn reads_first(
 ) -> bool
     ensures { IsTrue result ↔ ReadsFirst trace.now earlier.now cell value from to }
 {
-    trace.read(from, cell) == Some(value)
-        && from != to
+    from != to
+        && trace.read(from, cell) == Some(value)
         && writes_or_reads_other(trace, to, cell, value)
         && sees_no_other(trace, earlier, cell, value, from, from)
 }
@@ -134,7 +134,7 @@ fn is_before_read(trace: &CutTrace<'_>, from: Place, to: Place, source: Edge, be
         && source.to == before.to
         && before.from == from
         && source.from == to
-        && from != to
+        && to != from
         && writes_what_is_read(trace, from, source.to)
 }
 
