@@ -1,5 +1,5 @@
 //! What AMOs store at the ends of their range and at a few numbers between, by another program's arithmetic on bits.
-use crate::{AmoKind, apply};
+use scm_amo::{AmoKind, apply};
 use scm_cells::Width;
 
 const KINDS: [AmoKind; 9] = [

@@ -1,4 +1,4 @@
-use crate::{AmoKind, apply, at, name, read_name};
+use scm_amo::{AmoKind, apply, at, name, read_name};
 use scm_cells::Width;
 
 /// What each AMO stores, in the order of `at`: for the old value 3 and the operand 0x80000001 on words, for 5 and

@@ -1,7 +1,7 @@
 //! The calls on their happy paths. The worked rows have every refusal.
 
-use crate::test_words::{ANNA, BERT, cell, is_done, load, name, store};
-use crate::{Book, Call, Event, Reply, run_events};
+use crate::words::{ANNA, BERT, cell, is_done, load, name, store};
+use scm_book::{Book, Call, Event, Reply, run_events};
 use scm_cells::Name;
 use scm_frontier::Situation;
 use scm_schedules::{is_legal, refutes};
