@@ -10,7 +10,7 @@ use std::alloc::Global;
 /// how many for any trace. One costs about as much as a situation that is searched.
 const MOST_FUEL: u64 = 192;
 
-const FUEL: u64 = 32;
+const FUEL: u64 = 96;
 
 const LEAST_FUEL: u64 = 10_000;
 
