@@ -1,9 +1,9 @@
--- What a step's reply can't be: the refusal of a line that is no call, or the one for a full journal or for refused memory.
--- So no reply of a call is the first, and each reply to a step makes an entry.
+-- What a step's reply can't be: the refusal of a line that is no call or of a session too many, or the one for a full journal
+-- or for refused memory. So no reply of a call is one of the first two, and each reply to a step makes an entry.
 use Rattle.std.proofs.Common.{◌≡◌, ◌≢◌, ℕ, Bool, true, false, List, Option, None, Some, Result, Ok, Err, IsSomeAnd, IsOkAnd, slice_get, length, nat_le, refl, sym, ap, ◌∙◌, if◌then◌else◌}
 use Rattle.std.specs.Option.{option_or, option_map_or, ok_or}
 use Rattle.scm_sequences.specs.declared.refusal.Refusal.{Refusal}
-use Rattle.scm_sequences.specs.declared.refusal.Refusal.TheVariants.{BadLine, JournalFull, NoMemory, NoSuchTrace, NotClaimed, SequenceFull, NoSuchCell, WidthMismatch, ValueOutOfRange}
+use Rattle.scm_sequences.specs.declared.refusal.Refusal.TheVariants.{BadLine, JournalFull, NoMemory, TooManySessions, NoSuchTrace, NotClaimed, SequenceFull, NoSuchCell, WidthMismatch, ValueOutOfRange}
 use Rattle.scm_sequences.specs.declared.limits.TheConstants.{MOST_OPERATIONS}
 use Rattle.scm_sequences.specs.Sequences.{operations}
 use Rattle.scm_sequences.specs.Traces.{Trace, cut_to}
@@ -26,6 +26,7 @@ abbrev is_of_step : ReplyData → Bool
 is_of_step (refused BadLine) = false
 is_of_step (refused JournalFull) = false
 is_of_step (refused NoMemory) = false
+is_of_step (refused TooManySessions) = false
 is_of_step reply = true
 
 -- ---- causes
@@ -165,16 +166,27 @@ of_step-enters : (reply : ReplyData) → is_of_step reply ≡ true → makes_ent
 of_step-enters (refused BadLine) of_step = refl
 of_step-enters (refused JournalFull) of_step = of_step
 of_step-enters (refused NoMemory) of_step = of_step
+of_step-enters (refused TooManySessions) of_step = refl
 of_step-enters reply of_step = refl
 
 -- each reply to a step makes an entry
 pub IsStep-enters : (old new : Machine) (session : ℕ) (call : CallData) (reply : ReplyData) → IsStep old session call reply new → makes_entry reply ≡ true
 IsStep-enters old new session call reply step = of_step-enters reply (IsStep-of_step old new session call reply step)
 
+IsStep-never : (other : ReplyData) → is_of_step other ≡ false → (old new : Machine) (session : ℕ) (call : CallData) (reply : ReplyData) → IsStep old session call reply new → reply ≢ other
+IsStep-never other never old new session call reply step is = let no : false ≡ true = sym never ∙ sym (ap is_of_step is) ∙ IsStep-of_step old new session call reply step in cc
+
 -- no call is refused as a bad line: neither by a step of the machine
 pub IsStep-good : (old new : Machine) (session : ℕ) (call : CallData) (reply : ReplyData) → IsStep old session call reply new → reply ≢ refused BadLine
-IsStep-good old new session call reply step bad = let no : false ≡ true = sym (ap is_of_step bad) ∙ IsStep-of_step old new session call reply step in cc
+IsStep-good = IsStep-never (refused BadLine) refl
 
 -- nor by a book
 pub IsCall-good : (old new : BookState) (session : ℕ) (call : CallData) (reply : ReplyData) → IsCall old session call reply new → reply ≢ refused BadLine
 IsCall-good old new session call reply called bad = IsStep-good old.machine new.machine session call reply (called.step (ap makes_entry bad)) bad
+
+-- and none is refused for too many sessions
+pub IsStep-sessions : (old new : Machine) (session : ℕ) (call : CallData) (reply : ReplyData) → IsStep old session call reply new → reply ≢ refused TooManySessions
+IsStep-sessions = IsStep-never (refused TooManySessions) refl
+
+pub IsCall-sessions : (old new : BookState) (session : ℕ) (call : CallData) (reply : ReplyData) → IsCall old session call reply new → reply ≢ refused TooManySessions
+IsCall-sessions old new session call reply called many = IsStep-sessions old.machine new.machine session call reply (called.step (ap makes_entry many)) many
