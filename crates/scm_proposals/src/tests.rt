@@ -10,7 +10,15 @@ fn message_passing(rt: HostRuntime) -> Result<(), Fail> {
     sequences.push(1, Op::R { cell: 1, value: 1 })?;
     sequences.push(1, Op::R { cell: 0, value: 1 })?;
     let lengths = sequences.lengths();
-    let schedule = propose(rt.alloc(), &[Some(0), Some(0)], &sequences, &lengths).ok_or("none")?;
+    let schedule = propose(
+        rt.alloc(),
+        &[Some(0), Some(0)],
+        &sequences,
+        &lengths,
+        &[],
+        1_000,
+    )
+    .ok_or("none")?;
     assert_eq!(rt; schedule.as_slice(), [0, 0, 1, 1].as_slice());
     Ok(())
 }
