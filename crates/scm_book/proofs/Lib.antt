@@ -3,9 +3,9 @@ pub mod Marking
 pub mod Entries
 pub mod Answering
 pub mod Questions
+mod AskedLengths
 pub mod Sounding
 mod Counting
-mod Entering
 mod Changing
 mod Calling
 mod Answered

@@ -6,9 +6,11 @@ pub mod Showing
 pub mod Verdicts
 pub mod Refusals
 pub mod Steps
+pub mod Asking
 pub mod Changes
 pub mod Runs
 pub mod Journal
+pub mod ReplyLaws
 pub mod Callers
 pub mod CallerLaws
 pub mod JournalState

@@ -4,6 +4,7 @@
 mod book;
 mod call;
 mod declarations;
+mod earlier;
 mod entry;
 mod event;
 mod fixing;

@@ -181,6 +181,44 @@ fn a_return_cuts_to_its_mark(rt: HostRuntime) {
     assert_empty_schedule(&rt, ask(&mut book, BERT, t, None));
 }
 
+/// Anna stores a value in x, and Bert loads it.
+fn pass_value(rt: &impl Abort, book: &mut Book, value: u64) {
+    let t = name(rt, b"t");
+    assert!(rt; is_done(book.report(ANNA, t, 0, &store(rt, b"x", value))));
+    assert!(rt; is_done(book.report(BERT, t, 1, &load(rt, b"x", value))));
+}
+
+/// How long the schedule is that a question is answered with.
+fn schedule_length(rt: &impl Abort, reply: Reply) -> usize {
+    let Reply::Consistent { schedule, .. } = reply else {
+        panic!(rt; "not consistent");
+    };
+    schedule.len()
+}
+
+// A schedule is gone on from, under a budget of 3, which no search of more than a few operations has enough of: also after a
+// question at a mark dropped situations, as values are passed on and on, and after a return.
+#[test]
+fn a_schedule_is_gone_on_from(rt: HostRuntime) {
+    let mut book = Book::new(rt.alloc());
+    open_two(&rt, &mut book, 3);
+    let t = name(&rt, b"t");
+    assert!(rt; is_done(book.report(BERT, t, 1, &store(&rt, b"x", 1))));
+    assert!(rt; matches!(book.mark(ANNA, t), Reply::MarkSet(0)));
+    assert!(rt; is_done(book.report(ANNA, t, 0, &load(&rt, b"x", 0))));
+    assert_eq!(rt; schedule_length(&rt, ask(&mut book, ANNA, t, None)), 2);
+    assert_eq!(rt; schedule_length(&rt, ask(&mut book, ANNA, t, Some(0))), 1);
+    assert_eq!(rt; schedule_length(&rt, ask(&mut book, ANNA, t, None)), 2);
+    for value in 2..6 {
+        pass_value(&rt, &mut book, value);
+        assert!(rt; schedule_length(&rt, why(&mut book, BERT, t, None)) >= 4);
+    }
+    assert!(rt; is_done(book.back(ANNA, t, 0)));
+    pass_value(&rt, &mut book, 9);
+    assert_eq!(rt; schedule_length(&rt, ask(&mut book, ANNA, t, None)), 3);
+    assert_eq!(rt; schedule_length(&rt, ask(&mut book, ANNA, t, Some(0))), 1);
+}
+
 #[test]
 fn traces_are_released_listed_and_closed(rt: HostRuntime) -> Result<(), Fail> {
     let mut book = Book::new(rt.alloc());
