@@ -9,9 +9,8 @@ ghost use Rattle.scm_sessions.specs.Asking.{nothing, asked_by, name_in};
 ghost use Rattle.scm_sessions.specs.Replies.{reply_line, answer_text};
 ghost use Rattle.scm_sessions.specs.Script.{script_state, session_of, with_name, is_turned_away, AnswersCall, AnswersLine};
 
-use crate::calls::{asks_nothing, read_text};
+use crate::asking::{Asked, Unread, read_asked};
 use crate::replies::Answer;
-use crate::words::line_name;
 use indexmap::IndexSet;
 use scm_book::{Book, Call, Reply};
 use scm_cells::Name;
@@ -85,36 +84,25 @@ impl Sessions {
         }
     }
 
-    /// The reply to a line that asks for something.
-    fn reply(&mut self, alloc: Global, line: &[u8]) -> Reply
-        requires { asked_by (text line.now) ≢ nothing }
-        ensures { AnswersLine self.old (asked_by (text line.now))
-            (reply_line (name_in (asked_by (text line.now))) (reply_data result)) self.new }
-    {
-        match read_text(alloc, line) {
-            Ok((name, call)) => self.call(name, call),
-            Err(refusal) => Reply::Refused(refusal),
-        }
-    }
-
     /// The answer to a line, where it has one; `None` stands for a line that is too long.
     pub(crate) fn answer(&mut self, alloc: Global, line: Option<&[u8]>) -> Option<Answer>
         ensures { AnswersLine self.old (asked_by (line_given (option_copied line.entry))) (answer_text result) self.new }
     {
-        let Some(line) = line else {
-            return Some(Answer {
-                name: None,
+        match read_asked(alloc, line) {
+            Ok(Asked::Nothing) => None,
+            Ok(Asked::Bad(name)) => Some(Answer {
+                name,
                 reply: Reply::Refused(Refusal::BadLine),
-            });
-        };
-        if asks_nothing(line) {
-            return None;
+            }),
+            Ok(Asked::Good { session, call }) => Some(Answer {
+                name: Some(session),
+                reply: self.call(session, call),
+            }),
+            Err(Unread { session }) => Some(Answer {
+                name: Some(session),
+                reply: Reply::Refused(Refusal::NoMemory),
+            }),
         }
-        let reply = self.reply(alloc, line);
-        Some(Answer {
-            name: line_name(line),
-            reply,
-        })
     }
 
     /// The book, and the names in the order of their entry, which go into `room`.
