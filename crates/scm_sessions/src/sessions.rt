@@ -1,15 +1,15 @@
 //! The state of a script run: the names of the sessions, and the book.
-ghost use Rattle.std.specs.Prelude.{◌≡◌, ◌≢◌, ◌⊎◌, ◌≤◌, [], length, vec_capacity, true, false, IfOk, IfErr, OnErr, option_copied};
+ghost use Rattle.std.specs.Prelude.{◌≡◌, ◌⊎◌, ◌≤◌, [], length, vec_capacity, true, false, IfOk, IfErr, OnErr, option_copied};
 ghost use Rattle.scm_sequences.specs.declared.refusal.Refusal.TheVariants.{NoMemory, TooManySessions};
 ghost use Rattle.scm_sequences.specs.declared.limits.TheConstants.{MOST_SESSIONS};
 ghost use Rattle.scm_book.specs.Calls.{call_data, reply_data};
 ghost use Rattle.scm_book.specs.Journal.{IsLegalBook};
-ghost use Rattle.scm_sessions.specs.Lines.{line_given, text};
-ghost use Rattle.scm_sessions.specs.Asking.{nothing, asked_by, name_in};
-ghost use Rattle.scm_sessions.specs.Replies.{reply_line, answer_text};
+ghost use Rattle.scm_sessions.specs.Lines.{line_given};
+ghost use Rattle.scm_sessions.specs.Asking.{asked_by, asked_data};
+ghost use Rattle.scm_sessions.specs.Replies.{answer_text};
 ghost use Rattle.scm_sessions.specs.Script.{script_state, session_of, with_name, is_turned_away, AnswersCall, AnswersLine};
 
-use crate::asking::{Asked, Unread, read_asked};
+use crate::asking::{Asked, read_asked};
 use crate::replies::Answer;
 use indexmap::IndexSet;
 use scm_book::{Book, Call, Reply};
@@ -84,22 +84,31 @@ impl Sessions {
         }
     }
 
+    /// The answer to a line that asks this, where it has one.
+    fn answer_asked(&mut self, asked: Asked) -> Option<Answer>
+        ensures { AnswersLine self.old (asked_data asked) (answer_text result) self.new }
+    {
+        match asked {
+            Asked::Nothing => None,
+            Asked::Bad(name) => Some(Answer {
+                name,
+                reply: Reply::Refused(Refusal::BadLine),
+            }),
+            Asked::Good { session, call } => Some(Answer {
+                name: Some(session),
+                reply: self.call(session, call),
+            }),
+        }
+    }
+
     /// The answer to a line, where it has one; `None` stands for a line that is too long.
     pub(crate) fn answer(&mut self, alloc: Global, line: Option<&[u8]>) -> Option<Answer>
         ensures { AnswersLine self.old (asked_by (line_given (option_copied line.entry))) (answer_text result) self.new }
     {
         match read_asked(alloc, line) {
-            Ok(Asked::Nothing) => None,
-            Ok(Asked::Bad(name)) => Some(Answer {
-                name,
-                reply: Reply::Refused(Refusal::BadLine),
-            }),
-            Ok(Asked::Good { session, call }) => Some(Answer {
-                name: Some(session),
-                reply: self.call(session, call),
-            }),
-            Err(Unread { session }) => Some(Answer {
-                name: Some(session),
+            Ok(asked) => self.answer_asked(asked),
+            Err(unread) => Some(Answer {
+                name: Some(unread.session),
                 reply: Reply::Refused(Refusal::NoMemory),
             }),
         }
