@@ -1,18 +1,15 @@
--- The answers to lines that are refused.
-use Rattle.std.proofs.Common.{◌≡◌, ◌≢◌, ◌⊎◌, ℕ, List, refl, ap, inl, inr}
-use Rattle.scm_sequences.specs.declared.refusal.Refusal.{Refusal}
-use Rattle.scm_sequences.specs.declared.refusal.Refusal.TheVariants.{BadLine, NoMemory}
-use Rattle.scm_book.specs.Calls.{CallData, refused}
+-- The answers to lines.
+use Rattle.std.proofs.Common.{◌≡◌, ℕ, List, Some, refl, sym, ap, inr}
+use Rattle.scm_sequences.specs.declared.refusal.Refusal.TheVariants.{NoMemory}
+use Rattle.scm_book.specs.Calls.{refused}
 use Rattle.scm_sessions.specs.Asking.{Asked, nothing, bad, good, name_in}
 use Rattle.scm_sessions.specs.Replies.{reply_line}
 use Rattle.scm_sessions.specs.Script.{ScriptState, AnswersLine}
 
--- a line that asks for something may be refused: a bad line for that, each line for want of memory
-pub answers_refused : (old : ScriptState) (asked : Asked) (refusal : Refusal) → asked ≢ nothing
-    → ((refusal ≡ BadLine) × ((name : List ℕ) (call : CallData) → asked ≢ good name call)) ⊎ (refusal ≡ NoMemory)
-    → AnswersLine old asked (reply_line (name_in asked) (refused refusal)) old
-answers_refused old nothing refusal some why = absurd (some refl)
-answers_refused old (bad name) refusal some (inl why) = (refused refusal, inl (ap (λ r. refused r) why.0), refl, refl)
-answers_refused old (bad name) refusal some (inr why) = (refused refusal, inr (ap (λ r. refused r) why), refl, refl)
-answers_refused old (good name call) refusal some (inl why) = absurd (why.1 name call refl)
-answers_refused old (good name call) refusal some (inr why) = (refused refusal, inr (ap (λ r. refused r) why, refl), refl)
+-- a line under a name may be refused for want of memory
+pub answers_refused : (old : ScriptState) (asked : Asked) (name : List ℕ) → name_in asked ≡ Some name
+    → AnswersLine old asked (reply_line (Some name) (refused NoMemory)) old
+answers_refused old nothing name is = absurd (cc)
+answers_refused old (bad other) name is = (refused NoMemory, inr refl, refl, ap (λ n. reply_line n (refused NoMemory)) (sym is))
+answers_refused old (good other call) name is =
+    (refused NoMemory, inr (refl, refl), ap (λ n. reply_line n (refused NoMemory)) (sym is))

@@ -8,7 +8,9 @@ use Rattle.scm_cells.specs.Numbers.{count_of_word}
 use Rattle.scm_cells.specs.Initials.{initial_of_word}
 use Rattle.scm_lowering.specs.Accesses.{access_of_words}
 use Rattle.scm_book.specs.declared.call.Decl.{Decl}
-use Rattle.scm_book.specs.Calls.{CallData, opens, claims, releases, reports, sets_mark, goes_back, raises, asks, asks_why, shows, lists, closes}
+use Rattle.scm_book.specs.Calls.{CallData, call_data, opens, claims, releases, reports, sets_mark, goes_back, raises, asks, asks_why, shows, lists, closes}
+use Rattle.scm_sessions.specs.declared.asking.Asked.{Asked as AskedLine}
+use Rattle.scm_sessions.specs.declared.asking.Asked.TheVariants.{Nothing, Bad, Good}
 use Rattle.scm_sessions.specs.declared.commands.Command.{Command}
 use Rattle.scm_sessions.specs.declared.commands.Command.TheVariants.{OpenTrace, ClaimProcess, ReleaseProcess, Report, SetMark, GoBack, RaiseBudget, Ask, Why, ShowOps, ListTraces, CloseTrace}
 use Rattle.scm_sessions.specs.Lines.{Line, too_long, text}
@@ -164,3 +166,9 @@ abbrev pub name_in : Asked → Option (List ℕ)
 name_in nothing = None
 name_in (bad name) = name
 name_in (good name call) = Some name
+
+-- what a line was read as
+abbrev pub asked_data : AskedLine → Asked
+asked_data Nothing = nothing
+asked_data (Bad name) = bad name
+asked_data (Good session call) = good session (call_data call)

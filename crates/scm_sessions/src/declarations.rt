@@ -1,11 +1,12 @@
 //! The declarations of cells in a line.
-ghost use Rattle.std.specs.Prelude.{◌≡◌, ◌==◌, ◌<◌, length, position, IfSome, ◌⊎◌, None, Some, map, IfOk, IfErr};
-ghost use Rattle.scm_sequences.specs.declared.refusal.Refusal.TheVariants.{BadLine, NoMemory};
+ghost use Rattle.std.specs.Prelude.{◌≡◌, ◌==◌, ◌<◌, length, position, option_map, IfSome, IfOk};
+ghost use Rattle.scm_sessions.specs.Words.{words_of};
 ghost use Rattle.scm_sessions.specs.Asking.{width_of_letter, declaration_of, declaration_of_word, declarations_of_words};
 
+use crate::words::split_word;
 use scm_book::Decl;
 use scm_cells::{Name, Width, read_initial};
-use scm_sequences::Refusal;
+use scm_sequences::NoMemory;
 use std::alloc::Global;
 
 /// The width that a letter stands for.
@@ -52,20 +53,18 @@ fn read_declaration(word: &[u8]) -> Option<Decl>
     declaration(&word[..colon], &word[colon + 1..])
 }
 
-/// The cells that these words declare. Refused `BadLine` where a word declares none, or `NoMemory`.
-pub(crate) fn read_declarations(alloc: Global, words: &[&[u8]]) -> Result<Vec<Decl>, Refusal>
-    ensures ok { IfOk result (λ decls. declarations_of_words (map (λ word. word.now) words.now) ≡ Some decls.items) }
-    ensures err { IfErr result (λ refusal.
-        ((refusal ≡ BadLine) × (declarations_of_words (map (λ word. word.now) words.now) ≡ None)) ⊎ (refusal ≡ NoMemory)) }
+/// The cells that the words of a line declare, or `None` where a word declares none.
+pub(crate) fn read_declarations(alloc: Global, line: &[u8]) -> Result<Option<Vec<Decl>>, NoMemory>
+    ensures { IfOk result (λ decls. option_map (λ decls. decls.items) decls ≡ declarations_of_words (words_of line.now)) }
 {
     let mut decls = Vec::new(alloc);
-    for word in words {
+    let mut rest = line;
+    while let Some((word, after)) = split_word(rest) {
         let Some(decl) = read_declaration(word) else {
-            return Err(Refusal::BadLine);
+            return Ok(None);
         };
-        if decls.push(decl).is_err() {
-            return Err(Refusal::NoMemory);
-        }
+        decls.push(decl)?;
+        rest = after;
     }
-    Ok(decls)
+    Ok(Some(decls))
 }

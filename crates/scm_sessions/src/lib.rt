@@ -2,6 +2,7 @@
 #![tactic(auto)]
 
 mod arguments;
+mod asking;
 mod calls;
 mod commands;
 mod declarations;

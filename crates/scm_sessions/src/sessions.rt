@@ -1,17 +1,16 @@
 //! The state of a script run: the names of the sessions, and the book.
-ghost use Rattle.std.specs.Prelude.{◌≡◌, ◌≢◌, ◌⊎◌, ◌≤◌, [], length, vec_capacity, true, false, IfOk, IfErr, OnErr, option_copied};
+ghost use Rattle.std.specs.Prelude.{◌≡◌, ◌⊎◌, ◌≤◌, [], length, vec_capacity, true, false, IfOk, IfErr, OnErr, option_copied};
 ghost use Rattle.scm_sequences.specs.declared.refusal.Refusal.TheVariants.{NoMemory, TooManySessions};
 ghost use Rattle.scm_sequences.specs.declared.limits.TheConstants.{MOST_SESSIONS};
 ghost use Rattle.scm_book.specs.Calls.{call_data, reply_data};
 ghost use Rattle.scm_book.specs.Journal.{IsLegalBook};
-ghost use Rattle.scm_sessions.specs.Lines.{line_given, text};
-ghost use Rattle.scm_sessions.specs.Asking.{nothing, asked_by, name_in};
-ghost use Rattle.scm_sessions.specs.Replies.{reply_line, answer_text};
+ghost use Rattle.scm_sessions.specs.Lines.{line_given};
+ghost use Rattle.scm_sessions.specs.Asking.{asked_by, asked_data};
+ghost use Rattle.scm_sessions.specs.Replies.{answer_text};
 ghost use Rattle.scm_sessions.specs.Script.{script_state, session_of, with_name, is_turned_away, AnswersCall, AnswersLine};
 
-use crate::calls::{asks_nothing, read_text};
+use crate::asking::{Asked, read_asked};
 use crate::replies::Answer;
-use crate::words::line_name;
 use indexmap::IndexSet;
 use scm_book::{Book, Call, Reply};
 use scm_cells::Name;
@@ -85,15 +84,20 @@ impl Sessions {
         }
     }
 
-    /// The reply to a line that asks for something.
-    fn reply(&mut self, alloc: Global, line: &[u8]) -> Reply
-        requires { asked_by (text line.now) ≢ nothing }
-        ensures { AnswersLine self.old (asked_by (text line.now))
-            (reply_line (name_in (asked_by (text line.now))) (reply_data result)) self.new }
+    /// The answer to a line that asks this, where it has one.
+    fn answer_asked(&mut self, asked: Asked) -> Option<Answer>
+        ensures { AnswersLine self.old (asked_data asked) (answer_text result) self.new }
     {
-        match read_text(alloc, line) {
-            Ok((name, call)) => self.call(name, call),
-            Err(refusal) => Reply::Refused(refusal),
+        match asked {
+            Asked::Nothing => None,
+            Asked::Bad(name) => Some(Answer {
+                name,
+                reply: Reply::Refused(Refusal::BadLine),
+            }),
+            Asked::Good { session, call } => Some(Answer {
+                name: Some(session),
+                reply: self.call(session, call),
+            }),
         }
     }
 
@@ -101,20 +105,13 @@ impl Sessions {
     pub(crate) fn answer(&mut self, alloc: Global, line: Option<&[u8]>) -> Option<Answer>
         ensures { AnswersLine self.old (asked_by (line_given (option_copied line.entry))) (answer_text result) self.new }
     {
-        let Some(line) = line else {
-            return Some(Answer {
-                name: None,
-                reply: Reply::Refused(Refusal::BadLine),
-            });
-        };
-        if asks_nothing(line) {
-            return None;
+        match read_asked(alloc, line) {
+            Ok(asked) => self.answer_asked(asked),
+            Err(unread) => Some(Answer {
+                name: Some(unread.session),
+                reply: Reply::Refused(Refusal::NoMemory),
+            }),
         }
-        let reply = self.reply(alloc, line);
-        Some(Answer {
-            name: line_name(line),
-            reply,
-        })
     }
 
     /// The book, and the names in the order of their entry, which go into `room`.

@@ -1,10 +1,8 @@
 //! The words of a line.
-ghost use Rattle.std.specs.Prelude.{◌≡◌, map, slice_get, option_map, IfOk};
+ghost use Rattle.std.specs.Prelude.{◌≡◌, ◌<◌, [], ◌∷◌, length, not, position, IfSome, MatchOption};
 ghost use Rattle.scm_sessions.specs.Words.{is_blank, words_of, name_of_line};
 
 use scm_cells::Name;
-use scm_sequences::NoMemory;
-use std::alloc::Global;
 
 /// Whether a byte is a space or a tab.
 fn is_blank_byte(byte: u8) -> bool
@@ -13,30 +11,39 @@ fn is_blank_byte(byte: u8) -> bool
     byte == b' ' || byte == b'\t'
 }
 
-/// The words of a line, in order.
-pub(crate) fn words(alloc: Global, line: &[u8]) -> Result<Vec<&[u8]>, NoMemory>
-    ensures { IfOk result (λ words. map (λ word. word.now) words.items ≡ words_of line.now) }
+/// Where the first blank stands.
+fn first_blank(line: &[u8]) -> Option<usize>
+    ensures place { result ≡ position is_blank line.now }
+    ensures within { IfSome result (λ place. place < length line.now) }
 {
-    let words = line
-        .split(|&byte| is_blank_byte(byte))
-        .filter(|word| !word.is_empty())
-        .collect(alloc)?;
-    Ok(words)
+    line.iter().position(|&byte| is_blank_byte(byte))
 }
 
-/// The first word of a line, if it has one.
-pub(crate) fn first_word(line: &[u8]) -> Option<&[u8]>
-    ensures { option_map (λ word. word.now) result ≡ slice_get (words_of line.now) 0 }
+/// Where the first byte stands that is no blank.
+fn first_of_word(line: &[u8]) -> Option<usize>
+    ensures place { result ≡ position (λ b. not (is_blank b)) line.now }
+    ensures within { IfSome result (λ place. place < length line.now) }
 {
-    line.split(|&byte| is_blank_byte(byte))
-        .find(|word| !word.is_empty())
+    line.iter().position(|&byte| !is_blank_byte(byte))
+}
+
+/// The first word of a line and what stands behind it, if the line has a word.
+pub(crate) fn split_word(line: &[u8]) -> Option<(&[u8], &[u8])>
+    ensures words { MatchOption result (words_of line.now ≡ [])
+        (λ split. words_of line.now ≡ split.0.now ∷ words_of split.1.now) }
+    ensures shorter { IfSome result (λ split. length split.1.now < length line.now) }
+{
+    let line = &line[first_of_word(line)?..];
+    let end = first_blank(line).unwrap_or(line.len());
+    Some(line.split_at(end))
 }
 
 /// The first word of a line where it is a name: who a line is from.
 pub fn line_name(line: &[u8]) -> Option<Name>
     ensures { result ≡ name_of_line line.now }
 {
-    Name::read(first_word(line)?)
+    let (word, _) = split_word(line)?;
+    Name::read(word)
 }
 
 #[cfg(test)]

@@ -121,13 +121,3 @@ fn bad_lines_are_refused(rt: HostRuntime) {
         assert_eq!(rt; refused, Some(Refusal::BadLine), "{line}");
     }
 }
-
-#[test]
-fn some_lines_ask_for_nothing(rt: HostRuntime) {
-    for line in ["", " \t ", "#", "# a ask t", "#\x01"] {
-        assert!(rt; asks_nothing(line.as_bytes()), "{line}");
-    }
-    for line in ["a", " # a", "\r", "\x01"] {
-        assert!(rt; !asks_nothing(line.as_bytes()), "{line}");
-    }
-}

@@ -3,14 +3,13 @@ use std::test::Fail;
 
 #[test]
 fn words_stand_between_blanks(rt: HostRuntime) -> Result<(), Fail> {
-    let found = words(rt.alloc(), b"  ab\tc \t d\x01 ")
-        .ok()
-        .ok_or("memory")?;
-    assert_eq!(rt; found.len(), 3);
-    assert_eq!(rt; found[0], b"ab".as_slice());
-    assert_eq!(rt; found[1], b"c".as_slice());
-    assert_eq!(rt; found[2], b"d\x01".as_slice());
-    assert_eq!(rt; words(rt.alloc(), b" \t ").ok().ok_or("memory")?.len(), 0);
+    let mut rest = b"  ab\tc \t d\x01 ".as_slice();
+    for wanted in [b"ab".as_slice(), b"c".as_slice(), b"d\x01".as_slice()] {
+        let (word, after) = split_word(rest).ok_or("no word")?;
+        assert_eq!(rt; word, wanted);
+        rest = after;
+    }
+    assert!(rt; split_word(rest).is_none());
     Ok(())
 }
 
