@@ -137,7 +137,7 @@ fn same_call(one: &Call, other: &Call) -> bool
 }
 
 /// Whether the replies are equal.
-fn same_reply(one: &Reply, other: &Reply) -> bool
+pub(crate) fn same_reply(one: &Reply, other: &Reply) -> bool
     ensures { IsTrue result ↔ (reply_data one.now ≡ reply_data other.now) }
 {
     match one {

@@ -1,6 +1,7 @@
 //! A storm: eight callers of one trace, who hinder each other, and four workers, whose expansions are late.
 ghost use Rattle.std.specs.Prelude.{◌≡◌};
 
+use crate::comparing::same_reply;
 use crate::test_words::{ask, cells, claim, name, report};
 use crate::{Audit, BookNaming, BookToken, Pass, SharedBook};
 use scm_book::{Book, Call, Entry, Event, Reply, run_events};
@@ -121,6 +122,14 @@ fn other_call(rt: &impl Abort, alloc: Global, kind: u64) -> Result<Call, AllocEr
     })
 }
 
+/// Whether the call that was answered so is the last that the pass kept.
+fn is_kept<B: BookNaming>(pass: &Pass<B>, reply: &Reply) -> bool {
+    match pass.kept().last() {
+        Some((_, kept)) => same_reply(kept, reply),
+        None => false,
+    }
+}
+
 /// Makes all turns of one caller, and gives its pass back.
 fn call_on<B: BookNaming, R: Wait + Abort>(
     rt: &R,
@@ -132,8 +141,9 @@ fn call_on<B: BookNaming, R: Wait + Abort>(
     let mut caller = Caller::new(pass.number());
     for _ in 0..TURNS {
         for call in caller.turn(rt, alloc).expect(rt, "memory") {
-            let _reply = shared.call(rt, &mut pass, call);
+            let reply = shared.call(rt, &mut pass, call);
             gusts.answered.fetch_add(1, Ordering::SeqCst);
+            assert!(rt; is_kept(&pass, &reply));
         }
     }
     pass

@@ -4,7 +4,7 @@ ghost use Rattle.std.specs.Prelude.{◌≡◌};
 use crate::test_words::{ask, cells, claim, name, report};
 use crate::{BookNaming, BookToken, Pass, SharedBook};
 use scm_book::{Call, Reply};
-use scm_expand::{FreeGate, Gate, TaskSource, run_workers};
+use scm_expand::{FreeGate, Gate, TaskSource, expand, run_workers};
 use scm_results::Tally;
 use std::alloc::Global;
 use std::marker::Brand;
@@ -187,4 +187,47 @@ fn call_meanwhile<B: BookNaming + Send + Sync, R: Threads + Wait + Abort + Sync>
 #[test]
 fn report_during_expand(rt: HostRuntime) -> Result<(), Fail> {
     call_meanwhile::<Brand, _>(&rt, rt.alloc(), BookToken::new(rt.alloc())?)
+}
+
+/// How many changes there were before and after a delivery, and after one of the same outcomes again.
+fn deliver_twice<B: BookNaming, R: Wait + Abort>(
+    rt: &R,
+    alloc: Global,
+    token: BookToken,
+) -> Result<[u64; 3], Fail>
+    requires table { token.table.shared.table_id ≡ B.table }
+    requires made { (token.made.name ≡ B.made) × (token.made.parts ≡ B.seats) }
+    requires totals { (token.totals.taken.name ≡ B.taken) × (token.totals.delivered.name ≡ B.delivered) × (token.totals.taken.parts ≡ B.parts) }
+{
+    let shared = SharedBook::<B>::new(alloc, token);
+    let mut pass = shared.enter(rt).ok().ok_or("a pass")?;
+    open_two(rt, alloc, &shared, &mut pass)?;
+    buffer_stores(rt, &shared, &mut pass);
+    let mut tally = shared.tally(rt).ok_or("a tally")?;
+    let mut outcomes = Vec::new(alloc);
+    let mut again = Vec::new(alloc);
+    for task in shared.take(rt, 2, &mut tally)? {
+        let outcome = expand(task).map_err(|(_, no_memory)| Fail::from(no_memory))?;
+        again.push(outcome.copy()?)?;
+        outcomes.push(outcome)?;
+    }
+    assert_eq!(rt; outcomes.len(), 2);
+    let before = shared.wait(rt, 0);
+    shared.deliver(rt, outcomes, &mut tally);
+    let first = shared.wait(rt, 0);
+    shared.deliver(rt, again, &mut tally);
+    assert_eq!(rt; tally.delivered(), 4);
+    Ok([before, first, shared.wait(rt, 0)])
+}
+
+#[test]
+fn a_repeated_delivery_wakes_nobody(rt: HostRuntime) -> Result<(), Fail> {
+    let [before, first, second] = deliver_twice::<Brand, _>(
+        &rt,
+        rt.alloc(),
+        BookToken::new(rt.alloc())?,
+    )?;
+    assert!(rt; before < first);
+    assert_eq!(rt; first, second);
+    Ok(())
 }
