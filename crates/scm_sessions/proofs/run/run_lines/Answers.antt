@@ -6,7 +6,7 @@ use Rattle.scm_sessions.proofs.run.run_lines.Goals as goal
 
 pub each-init : goal.each-init
 each-init g c = record {
-  run = HasRun-start _ _ _ _ c.requires.fresh;
+  run = HasRun-start _ _ _ _ _ c.requires.fresh;
   reads = search rules;
   writes = search rules;
 }
