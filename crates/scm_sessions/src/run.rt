@@ -10,7 +10,7 @@ ghost use Rattle.scm_sessions.specs.Exchanges.{LeadTo, RunsWhole, RunsWholeLines
 ghost use Rattle.scm_sessions.specs.Answering.{AnswersLine};
 ghost use Rattle.scm_sessions.specs.Script.{script_state, IsScriptRun, IsScriptBeginning};
 
-use crate::answering::{MakeCalls, answer};
+use crate::answers::{MakeCalls, answer};
 use crate::reading::{Cut, LineReader};
 use crate::replies::send_reply;
 use crate::sessions::Sessions;

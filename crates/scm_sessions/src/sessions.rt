@@ -5,7 +5,7 @@ ghost use Rattle.scm_sequences.specs.declared.limits.TheConstants.{MOST_SESSIONS
 ghost use Rattle.scm_book.specs.Journal.{IsLegalBook};
 ghost use Rattle.scm_sessions.specs.Script.{script_state, session_of, with_name, is_turned_away};
 
-use crate::answering::MakeCalls;
+use crate::answers::MakeCalls;
 use indexmap::IndexSet;
 use scm_book::{Book, Call, Reply};
 use scm_cells::Name;

@@ -4,7 +4,7 @@ ghost use Rattle.scm_sequences.specs.declared.limits.TheConstants.{MOST_SESSIONS
 ghost use Rattle.scm_shared.specs.Passes.{newcomer};
 ghost use Rattle.scm_sessions.specs.Callers.{callers};
 
-use crate::answering::MakeCalls;
+use crate::answers::MakeCalls;
 use indexmap::IndexSet;
 use scm_book::{Call, Reply};
 use scm_cells::Name;
