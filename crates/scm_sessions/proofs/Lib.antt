@@ -1,6 +1,6 @@
 pub mod Sent
 pub mod Gathering
-pub mod FirstPassing
+pub mod Splitting
 pub mod Entering
 pub mod Answering
 pub mod Joining

@@ -77,30 +77,30 @@ module _ {S : Type 0} {Calls : S → List ℕ → CallData → ReplyData → S �
 
   -- the exchanges with this line after those that were
   with_line : {script left written after : Option (List ℕ)} {old mid new : S} {line : Line} {text : List ℕ}
-      → HasRun script left written after Calls old mid → AnswersLine Calls mid line text new → List Exchange
+      → HasRun script left written after Calls old mid → AnswersLine Calls mid (asked_by line) text new → List Exchange
   with_line had answers = had.exchanges ++ answers.exchanges
 
   asked_with_line : {script left written after : Option (List ℕ)} {old mid new : S} {line : Line} {text : List ℕ}
-      (had : HasRun script left written after Calls old mid) (answers : AnswersLine Calls mid line text new)
+      (had : HasRun script left written after Calls old mid) (answers : AnswersLine Calls mid (asked_by line) text new)
       → asked_of (had.exchanges ++ answers.exchanges) ≡ asked_in (had.lines ++ line ∷ [])
   asked_with_line {script} {left} {written} {after} {old} {mid} {new} {line} had answers =
       asked_of-append had.exchanges answers.exchanges ∙ ap (λ asked. asked ++ asked_of answers.exchanges) had.asked
-      ∙ ap (λ asked. asked_in had.lines ++ asked) answers.asked ∙ sym (asked_in-append had.lines (line ∷ []))
+      ∙ ap (λ asked. asked_in had.lines ++ asked) answers.all ∙ sym (asked_in-append had.lines (line ∷ []))
 
   text_with_line : {script left written after : Option (List ℕ)} {old mid new : S} {line : Line} {text : List ℕ}
-      (had : HasRun script left written after Calls old mid) (answers : AnswersLine Calls mid line text new)
+      (had : HasRun script left written after Calls old mid) (answers : AnswersLine Calls mid (asked_by line) text new)
       → replies_text had.exchanges ++ text ≡ replies_text (had.exchanges ++ answers.exchanges)
   text_with_line had answers =
       ap (λ t. replies_text had.exchanges ++ t) answers.replied ∙ sym (replies_text-append had.exchanges answers.exchanges)
 
   wrote_with_line : {script left written after later : Option (List ℕ)} {old mid new : S} {line : Line} {text : List ℕ}
-      (had : HasRun script left written after Calls old mid) (answers : AnswersLine Calls mid line text new)
+      (had : HasRun script left written after Calls old mid) (answers : AnswersLine Calls mid (asked_by line) text new)
       → Appends after later text → Appends written later (replies_text (had.exchanges ++ answers.exchanges))
   wrote_with_line {script} {left} {written} {after} {later} had answers wrote =
       subst (Appends written later) (text_with_line had answers) (Appends-trans written after later _ _ had.wrote wrote)
 
   lead_with_line : {script left written after : Option (List ℕ)} {old mid new : S} {line : Line} {text : List ℕ}
-      (had : HasRun script left written after Calls old mid) (answers : AnswersLine Calls mid line text new)
+      (had : HasRun script left written after Calls old mid) (answers : AnswersLine Calls mid (asked_by line) text new)
       → LeadTo Calls old (had.exchanges ++ answers.exchanges) new
   lead_with_line {script} {left} {written} {after} {old} {mid} {new} had answers =
       LeadTo-append Calls old had.exchanges mid answers.exchanges new had.run answers.lead
@@ -108,9 +108,9 @@ module _ {S : Type 0} {Calls : S → List ℕ → CallData → ReplyData → S �
   -- one more whole line
   pub HasRun-more : {script left written after : Option (List ℕ)} {old mid : S} (next later : Option (List ℕ)) (line : Line)
       (text : List ℕ) (new : S) → HasRun script left written after Calls old mid → TakesLine Whole left next line
-      → AnswersLine Calls mid line text new → Appends after later text → HasRun script next written later Calls old new
+      → AnswersLine Calls mid (asked_by line) text new → Appends after later text → HasRun script next written later Calls old new
   HasRun-more {script} {left} {written} {after} {old} {mid} next later line text new had takes answers wrote =
-      let P : Line → Type 0 = λ l. AnswersLine Calls mid l text new in
+      let P : Line → Type 0 = λ l. AnswersLine Calls mid (asked_by l) text new in
       let answered = subst P takes.3 answers in
       record {
         bytes = had.bytes ++ (takes.0 ++ 10 ∷ []);
@@ -159,10 +159,10 @@ module _ {S : Type 0} {Calls : S → List ℕ → CallData → ReplyData → S �
   -- the last line has no line feed
   pub RunsWhole-last : {script left written after : Option (List ℕ)} {old mid : S} (unread : List ℕ) (rest later : Option (List ℕ)) (line : Line)
       (text : List ℕ) (new : S) → HasRun script left written after Calls old mid → TakesLine Last left (prepend_known unread rest) line
-      → AnswersLine Calls mid line text new → Appends after later text → RunsWhole script rest written later (λ exchanges. LeadTo Calls old exchanges new)
+      → AnswersLine Calls mid (asked_by line) text new → Appends after later text → RunsWhole script rest written later (λ exchanges. LeadTo Calls old exchanges new)
   RunsWhole-last {script} {left} {written} {after} {old} {mid} unread rest later line text new had takes answers wrote =
       let ends = end_after unread script rest (had.bytes ++ takes.0) (Consumes-trans script left _ _ _ had.read takes.3) takes.4 in
-      let P : Line → Type 0 = λ l. AnswersLine Calls mid l text new in
+      let P : Line → Type 0 = λ l. AnswersLine Calls mid (asked_by l) text new in
       let answered = subst P takes.5 answers in
       record {
         bytes = had.bytes ++ takes.0;
@@ -204,7 +204,7 @@ module _ {S : Type 0} {Calls : S → List ℕ → CallData → ReplyData → S �
   }
 
   part_with_line : {script left written after later : Option (List ℕ)} {old mid new : S} {line : Line} {text : List ℕ}
-      (had : HasRun script left written after Calls old mid) (answers : AnswersLine Calls mid line text new)
+      (had : HasRun script left written after Calls old mid) (answers : AnswersLine Calls mid (asked_by line) text new)
       → AppendsPart after later text → AppendsPart written later (replies_text (had.exchanges ++ answers.exchanges))
   part_with_line {script} {left} {written} {after} {later} {old} {mid} {new} {line} {text} had answers wrote =
       subst (AppendsPart written later) (text_with_line had answers) (AppendsPart-after (replies_text had.exchanges) had.wrote wrote)
@@ -212,9 +212,9 @@ module _ {S : Type 0} {Calls : S → List ℕ → CallData → ReplyData → S �
   -- a write failed at the reply to a whole line
   pub RunsPart-whole : {script left written after : Option (List ℕ)} {old mid : S} (unread : List ℕ) (rest later : Option (List ℕ)) (line : Line)
       (text : List ℕ) (new : S) → HasRun script left written after Calls old mid → TakesLine Whole left (prepend_known unread rest) line
-      → AnswersLine Calls mid line text new → AppendsPart after later text → RunsPart script rest written later (λ exchanges. LeadTo Calls old exchanges new)
+      → AnswersLine Calls mid (asked_by line) text new → AppendsPart after later text → RunsPart script rest written later (λ exchanges. LeadTo Calls old exchanges new)
   RunsPart-whole {script} {left} {written} {after} {old} {mid} unread rest later line text new had takes answers wrote =
-      let P : Line → Type 0 = λ l. AnswersLine Calls mid l text new in
+      let P : Line → Type 0 = λ l. AnswersLine Calls mid (asked_by l) text new in
       let answered = subst P takes.3 answers in
       record {
         bytes = (had.bytes ++ (takes.0 ++ 10 ∷ [])) ++ unread;
@@ -231,10 +231,10 @@ module _ {S : Type 0} {Calls : S → List ℕ → CallData → ReplyData → S �
   -- a write failed at the reply to a last line with no line feed
   pub RunsPart-last : {script left written after : Option (List ℕ)} {old mid : S} (unread : List ℕ) (rest later : Option (List ℕ)) (line : Line)
       (text : List ℕ) (new : S) → HasRun script left written after Calls old mid → TakesLine Last left (prepend_known unread rest) line
-      → AnswersLine Calls mid line text new → AppendsPart after later text → RunsPart script rest written later (λ exchanges. LeadTo Calls old exchanges new)
+      → AnswersLine Calls mid (asked_by line) text new → AppendsPart after later text → RunsPart script rest written later (λ exchanges. LeadTo Calls old exchanges new)
   RunsPart-last {script} {left} {written} {after} {old} {mid} unread rest later line text new had takes answers wrote =
       let ends = end_after unread script rest (had.bytes ++ takes.0) (Consumes-trans script left _ _ _ had.read takes.3) takes.4 in
-      let P : Line → Type 0 = λ l. AnswersLine Calls mid l text new in
+      let P : Line → Type 0 = λ l. AnswersLine Calls mid (asked_by l) text new in
       let answered = subst P takes.5 answers in
       record {
         bytes = had.bytes ++ takes.0;

@@ -12,7 +12,7 @@ use crate::arguments::{
 use crate::asking::{Asked, read_asked};
 use crate::commands::{Command, read_command};
 use crate::declarations::read_declarations;
-use crate::words::{has_word, split_word};
+use crate::words::split_word;
 use scm_book::Call;
 use scm_cells::{Name, read_count};
 use scm_sequences::{LONGEST_LINE, NoMemory, Refusal};
@@ -142,7 +142,7 @@ fn read_why(line: &[u8]) -> Option<Call>
 fn read_list(line: &[u8]) -> Option<Call>
     ensures { option_map call_data result ≡ list_of_words (words_of line.now) }
 {
-    if has_word(line) {
+    if split_word(line).is_some() {
         None
     } else {
         Some(Call::ListTraces)
@@ -193,10 +193,12 @@ pub fn read_line(alloc: Global, line: &[u8]) -> Result<(Name, Call), Refusal>
     if line.len() > LONGEST_LINE {
         return Err(Refusal::BadLine);
     }
-    match read_asked(alloc, Some(line)) {
-        Ok(Asked::Good { session, call }) => Ok((session, call)),
-        Ok(Asked::Nothing | Asked::Bad(_)) => Err(Refusal::BadLine),
-        Err(_) => Err(Refusal::NoMemory),
+    let Ok(asked) = read_asked(alloc, Some(line)) else {
+        return Err(Refusal::NoMemory);
+    };
+    match asked {
+        Asked::Good { session, call } => Ok((session, call)),
+        Asked::Nothing | Asked::Bad(_) => Err(Refusal::BadLine),
     }
 }
 

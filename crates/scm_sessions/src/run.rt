@@ -2,6 +2,7 @@
 ghost use Rattle.std.specs.Prelude.{◌≡◌, ◌≢◌, ◌↔◌, ℕ, List, [], true, false, is_err, IfOk, IfErr, OnOk, IsErrOf, option_copied};
 ghost use Rattle.std.specs.Io.KnownBytes.{Keeps};
 ghost use Rattle.scm_sessions.specs.Lines.{line_given};
+ghost use Rattle.scm_sessions.specs.Asking.{asked_by};
 ghost use Rattle.scm_sessions.specs.Ports.{inner_of, has_failed, Writes};
 ghost use Rattle.scm_sessions.specs.Reading.{unread_of};
 ghost use Rattle.scm_book.specs.Journal.{IsLegalBook};
@@ -10,7 +11,7 @@ ghost use Rattle.scm_sessions.specs.Exchanges.{LeadTo, RunsWhole, RunsWholeLines
 ghost use Rattle.scm_sessions.specs.Answering.{AnswersLine};
 ghost use Rattle.scm_sessions.specs.Script.{script_state, IsScriptRun, IsScriptBeginning};
 
-use crate::answers::{MakeCalls, answer};
+use crate::answers::{MakeCalls, answer_line};
 use crate::reading::{Cut, LineReader};
 use crate::replies::send_reply;
 use crate::sessions::Sessions;
@@ -22,7 +23,7 @@ use std::alloc::Global;
 use std::io::{Read, Write};
 
 /// Answers a line, and hands the reply to the writer where it has one; `None` stands for a line that is too long.
-fn answer_line<S: MakeCalls, W: Write>(
+fn send_answer<S: MakeCalls, W: Write>(
     alloc: Global,
     sessions: &mut S,
     line: Option<&[u8]>,
@@ -30,12 +31,12 @@ fn answer_line<S: MakeCalls, W: Write>(
 ) -> Result<(), RunFault>
     requires { has_failed writer.old ≡ false }
     ensures answered { (text : List ℕ)
-        × AnswersLine S.calls sessions.old (line_given (option_copied line.entry)) text sessions.new
+        × AnswersLine S.calls sessions.old (asked_by (line_given (option_copied line.entry))) text sessions.new
         × Writes (W.contents (inner_of writer.old)) (W.contents (inner_of writer.new)) result text }
     ensures fault { IfErr result (λ fault. fault ≡ RunFault.WriteFailed) }
     ensures failed { has_failed writer.new ≡ is_err result }
 {
-    match answer(alloc, sessions, line) {
+    match answer_line(alloc, sessions, line) {
         Some(answer) => send_reply(writer, answer.name.as_ref(), &answer.reply),
         None => Ok(()),
     }
@@ -84,9 +85,9 @@ pub(crate) fn run_lines<S: MakeCalls, R: Read, W: Write>(
     'each: loop {
         flush_before_read(lines, writer)?;
         match lines.next_line(reader)? {
-            Cut::Whole => answer_line(alloc, sessions, lines.line(), writer)?,
+            Cut::Whole => send_answer(alloc, sessions, lines.line(), writer)?,
             Cut::Last => {
-                answer_line(alloc, sessions, lines.line(), writer)?;
+                send_answer(alloc, sessions, lines.line(), writer)?;
                 writer.flush()?;
                 return Ok(());
             }

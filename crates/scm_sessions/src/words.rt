@@ -1,5 +1,5 @@
 //! The words of a line.
-ghost use Rattle.std.specs.Prelude.{◌≡◌, ◌<◌, ◌↔◌, [], ◌∷◌, length, not, position, IfSome, MatchOption, IsTrue};
+ghost use Rattle.std.specs.Prelude.{◌≡◌, ◌<◌, [], ◌∷◌, length, not, position, IfSome, MatchOption};
 ghost use Rattle.scm_sessions.specs.Words.{is_blank, words_of, name_of_line};
 
 use scm_cells::Name;
@@ -36,13 +36,6 @@ pub(crate) fn split_word(line: &[u8]) -> Option<(&[u8], &[u8])>
     let line = &line[first_of_word(line)?..];
     let end = first_blank(line).unwrap_or(line.len());
     Some(line.split_at(end))
-}
-
-/// Whether a line has a word.
-pub(crate) fn has_word(line: &[u8]) -> bool
-    ensures { (result ≡ false) ↔ (words_of line.now ≡ []) }
-{
-    first_of_word(line).is_some()
 }
 
 /// The first word of a line where it is a name: who a line is from.

@@ -5,12 +5,10 @@ use std::test::Fail;
 fn words_stand_between_blanks(rt: HostRuntime) -> Result<(), Fail> {
     let mut rest = b"  ab\tc \t d\x01 ".as_slice();
     for wanted in [b"ab".as_slice(), b"c".as_slice(), b"d\x01".as_slice()] {
-        assert!(rt; has_word(rest));
         let (word, after) = split_word(rest).ok_or("no word")?;
         assert_eq!(rt; word, wanted);
         rest = after;
     }
-    assert!(rt; !has_word(rest));
     assert!(rt; split_word(rest).is_none());
     Ok(())
 }
