@@ -7,13 +7,19 @@ use Rattle.scm_sessions.specs.Replies.{reply_line}
 use Rattle.scm_sessions.specs.Exchanges.{Exchange, exchange, has_reply, Answers}
 use Rattle.scm_sessions.specs.Answering.{AnswersLine}
 
+asked_alone : (asked : Asked) → has_reply asked ≡ true → asked ∷ [] ≡ filter has_reply (asked ∷ [])
+asked_alone asked some = rw some refl
+
+without_memory : {S : Type 0} (Calls : S → List ℕ → CallData → ReplyData → S → Type 0) (old : S) (asked : Asked) (name : List ℕ) → name_in asked ≡ Some name
+    → (has_reply asked ≡ true) × Answers Calls old asked (refused NoMemory) old
+without_memory Calls old nothing name asks = absurd (cc)
+without_memory Calls old (bad n) name asks = (refl, (inr refl, refl))
+without_memory Calls old (good n call) name asks = (refl, inr (refl, refl))
+
 module _ {S : Type 0} {Calls : S → List ℕ → CallData → ReplyData → S → Type 0} where
   -- a line that asks nothing has no reply
   pub AnswersLine-nothing : (old : S) → AnswersLine Calls old nothing [] old
   AnswersLine-nothing old = record { exchanges = []; all = refl; lead = refl; replied = refl }
-
-  asked_alone : (asked : Asked) → has_reply asked ≡ true → asked ∷ [] ≡ filter has_reply (asked ∷ [])
-  asked_alone asked some = rw some refl
 
   -- a line that has a reply
   AnswersLine-some : (old : S) (asked : Asked) (reply : ReplyData) (new : S) → has_reply asked ≡ true
@@ -34,16 +40,10 @@ module _ {S : Type 0} {Calls : S → List ℕ → CallData → ReplyData → S �
       → Answers Calls old (good name call) reply new → AnswersLine Calls old (good name call) (reply_line (Some name) reply) new
   AnswersLine-good old name call reply new answers = AnswersLine-some old (good name call) reply new refl answers
 
-  without_memory : (old : S) (asked : Asked) (name : List ℕ) → name_in asked ≡ Some name
-      → (has_reply asked ≡ true) × Answers Calls old asked (refused NoMemory) old
-  without_memory old nothing name asks = absurd (cc)
-  without_memory old (bad n) name asks = (refl, inr refl, refl)
-  without_memory old (good n call) name asks = (refl, inr (refl, refl))
-
   -- memory was refused for what a line asks
   pub AnswersLine-unread : (old : S) (asked : Asked) (name : List ℕ) → name_in asked ≡ Some name
       → AnswersLine Calls old asked (reply_line (Some name) (refused NoMemory)) old
   AnswersLine-unread old asked name asks =
-      let without = without_memory old asked name asks in
+      let without = without_memory Calls old asked name asks in
       let P : Option (List ℕ) → Type 0 = λ n. AnswersLine Calls old asked (reply_line n (refused NoMemory)) old in
       subst P asks (AnswersLine-some old asked (refused NoMemory) old without.0 without.1)

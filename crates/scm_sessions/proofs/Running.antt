@@ -7,7 +7,7 @@ use Rattle.std.proofs.KnownBytes.{Consumes-nil, Consumes-trans, Consumes-kept, A
 use Rattle.std.specs.Io.KnownBytes.{Consumes, Appends, Keeps, IsAtEnd, prepend_known}
 use Rattle.scm_book.specs.Calls.{CallData, ReplyData}
 use Rattle.scm_sessions.specs.declared.reading.Cut.TheVariants.{Whole, Last}
-use Rattle.scm_sessions.specs.Lines.{Line, whole_lines_of, HasNoFeed}
+use Rattle.scm_sessions.specs.Lines.{Line, line_of, whole_lines_of, HasNoFeed}
 use Rattle.scm_sessions.specs.Asking.{Asked, asked_by, name_in}
 use Rattle.scm_sessions.specs.Replies.{reply_line}
 use Rattle.scm_sessions.specs.Ports.{AppendsPart}
@@ -75,34 +75,31 @@ module _ {S : Type 0} {Calls : S → List ℕ → CallData → ReplyData → S �
     run = had.run;
   }
 
-  -- the exchanges with this line after those that were
-  with_line : {script left written after : Option (List ℕ)} {old mid new : S} {line : Line} {text : List ℕ}
-      → HasRun script left written after Calls old mid → AnswersLine Calls mid (asked_by line) text new → List Exchange
-  with_line had answers = had.exchanges ++ answers.exchanges
+  -- what holds of the exchanges with those of a line after them
 
-  asked_with_line : {script left written after : Option (List ℕ)} {old mid new : S} {line : Line} {text : List ℕ}
+  asked_with_line : {script left written after : Option (List ℕ)} {old mid new : S} (line : Line) {text : List ℕ}
       (had : HasRun script left written after Calls old mid) (answers : AnswersLine Calls mid (asked_by line) text new)
       → asked_of (had.exchanges ++ answers.exchanges) ≡ asked_in (had.lines ++ line ∷ [])
-  asked_with_line {script} {left} {written} {after} {old} {mid} {new} {line} had answers =
+  asked_with_line line had answers =
       asked_of-append had.exchanges answers.exchanges ∙ ap (λ asked. asked ++ asked_of answers.exchanges) had.asked
       ∙ ap (λ asked. asked_in had.lines ++ asked) answers.all ∙ sym (asked_in-append had.lines (line ∷ []))
 
-  text_with_line : {script left written after : Option (List ℕ)} {old mid new : S} {line : Line} {text : List ℕ}
+  text_with_line : {script left written after : Option (List ℕ)} {old mid new : S} (line : Line) {text : List ℕ}
       (had : HasRun script left written after Calls old mid) (answers : AnswersLine Calls mid (asked_by line) text new)
       → replies_text had.exchanges ++ text ≡ replies_text (had.exchanges ++ answers.exchanges)
-  text_with_line had answers =
+  text_with_line line had answers =
       ap (λ t. replies_text had.exchanges ++ t) answers.replied ∙ sym (replies_text-append had.exchanges answers.exchanges)
 
-  wrote_with_line : {script left written after later : Option (List ℕ)} {old mid new : S} {line : Line} {text : List ℕ}
+  wrote_with_line : {script left written after : Option (List ℕ)} (later : Option (List ℕ)) {old mid new : S} (line : Line) {text : List ℕ}
       (had : HasRun script left written after Calls old mid) (answers : AnswersLine Calls mid (asked_by line) text new)
       → Appends after later text → Appends written later (replies_text (had.exchanges ++ answers.exchanges))
-  wrote_with_line {script} {left} {written} {after} {later} had answers wrote =
-      subst (Appends written later) (text_with_line had answers) (Appends-trans written after later _ _ had.wrote wrote)
+  wrote_with_line {script} {left} {written} {after} later line had answers wrote =
+      subst (Appends written later) (text_with_line line had answers) (Appends-trans written after later _ _ had.wrote wrote)
 
-  lead_with_line : {script left written after : Option (List ℕ)} {old mid new : S} {line : Line} {text : List ℕ}
+  lead_with_line : {script left written after : Option (List ℕ)} {old mid new : S} (line : Line) {text : List ℕ}
       (had : HasRun script left written after Calls old mid) (answers : AnswersLine Calls mid (asked_by line) text new)
       → LeadTo Calls old (had.exchanges ++ answers.exchanges) new
-  lead_with_line {script} {left} {written} {after} {old} {mid} {new} had answers =
+  lead_with_line {script} {left} {written} {after} {old} {mid} {new} line had answers =
       LeadTo-append Calls old had.exchanges mid answers.exchanges new had.run answers.lead
 
   -- one more whole line
@@ -118,9 +115,9 @@ module _ {S : Type 0} {Calls : S → List ℕ → CallData → ReplyData → S �
         exchanges = had.exchanges ++ answered.exchanges;
         read = Consumes-trans script left next _ _ had.read takes.2;
         are = AreLines-more takes.0 had.are takes.1;
-        asked = asked_with_line had answered;
-        wrote = wrote_with_line had answered wrote;
-        run = lead_with_line had answered;
+        asked = asked_with_line (line_of takes.0) had answered;
+        wrote = wrote_with_line later (line_of takes.0) had answered wrote;
+        run = lead_with_line (line_of takes.0) had answered;
       }
 
 end_after : (unread : List ℕ) (script left : Option (List ℕ)) (bytes : List ℕ) → Consumes script (prepend_known unread left) bytes
@@ -169,9 +166,9 @@ module _ {S : Type 0} {Calls : S → List ℕ → CallData → ReplyData → S �
         exchanges = had.exchanges ++ answered.exchanges;
         consumed = ends.0;
         ended = ends.1;
-        asked = asked_with_line had answered ∙ ap asked_in (sym (lines_of-last takes.0 had.are takes.1 takes.2));
-        appended = wrote_with_line had answered wrote;
-        run = lead_with_line had answered;
+        asked = asked_with_line (line_of takes.0) had answered ∙ ap asked_in (sym (lines_of-last takes.0 had.are takes.1 takes.2));
+        appended = wrote_with_line later (line_of takes.0) had answered wrote;
+        run = lead_with_line (line_of takes.0) had answered;
       }
 
   -- a read failed
@@ -203,11 +200,11 @@ module _ {S : Type 0} {Calls : S → List ℕ → CallData → ReplyData → S �
     run = had.run;
   }
 
-  part_with_line : {script left written after later : Option (List ℕ)} {old mid new : S} {line : Line} {text : List ℕ}
+  part_with_line : {script left written after later : Option (List ℕ)} {old mid new : S} (line : Line) {text : List ℕ}
       (had : HasRun script left written after Calls old mid) (answers : AnswersLine Calls mid (asked_by line) text new)
       → AppendsPart after later text → AppendsPart written later (replies_text (had.exchanges ++ answers.exchanges))
-  part_with_line {script} {left} {written} {after} {later} {old} {mid} {new} {line} {text} had answers wrote =
-      subst (AppendsPart written later) (text_with_line had answers) (AppendsPart-after (replies_text had.exchanges) had.wrote wrote)
+  part_with_line {script} {left} {written} {after} {later} {old} {mid} {new} line {text} had answers wrote =
+      subst (AppendsPart written later) (text_with_line line had answers) (AppendsPart-after (replies_text had.exchanges) had.wrote wrote)
 
   -- a write failed at the reply to a whole line
   pub RunsPart-whole : {script left written after : Option (List ℕ)} {old mid : S} (unread : List ℕ) (rest later : Option (List ℕ)) (line : Line)
@@ -223,9 +220,9 @@ module _ {S : Type 0} {Calls : S → List ℕ → CallData → ReplyData → S �
         exchanges = had.exchanges ++ answered.exchanges;
         consumed = read_ahead unread script rest _ (Consumes-trans script left _ _ _ had.read takes.2);
         read = inl ((AreLines-more takes.0 had.are takes.1).whole unread);
-        asked = asked_with_line had answered;
-        appended = part_with_line had answered wrote;
-        run = lead_with_line had answered;
+        asked = asked_with_line (line_of takes.0) had answered;
+        appended = part_with_line (line_of takes.0) had answered wrote;
+        run = lead_with_line (line_of takes.0) had answered;
       }
 
   -- a write failed at the reply to a last line with no line feed
@@ -243,9 +240,9 @@ module _ {S : Type 0} {Calls : S → List ℕ → CallData → ReplyData → S �
         exchanges = had.exchanges ++ answered.exchanges;
         consumed = ends.0;
         read = inr (ends.1, lines_of-last takes.0 had.are takes.1 takes.2 ∙ sym (append-nil _));
-        asked = asked_with_line had answered;
-        appended = part_with_line had answered wrote;
-        run = lead_with_line had answered;
+        asked = asked_with_line (line_of takes.0) had answered;
+        appended = part_with_line (line_of takes.0) had answered wrote;
+        run = lead_with_line (line_of takes.0) had answered;
       }
 
 -- ---- what is said of the exchanges may be said otherwise

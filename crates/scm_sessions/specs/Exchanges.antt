@@ -1,5 +1,5 @@
 -- The exchanges of a run: what each line asked that has a reply, and the reply. This project's profile.
-use Rattle.std.specs.Prelude.{ℕ, ◌≡◌, ◌⊎◌, ⊥, List, [], ◌∷◌, ◌++◌, map, filter, flat_map, Bool, true, false, Option}
+use Rattle.std.specs.Prelude.{ℕ, ◌≡◌, ◌⊎◌, List, [], ◌∷◌, ◌++◌, map, filter, flat_map, Bool, true, false, Option}
 use Rattle.std.specs.Io.KnownBytes.{Consumes, Appends, IsAtEnd}
 use Rattle.scm_sequences.specs.declared.refusal.Refusal.TheVariants.{BadLine, NoMemory}
 use Rattle.scm_book.specs.Calls.{CallData, ReplyData, refused}

@@ -1,6 +1,6 @@
 -- A script run over a book that threads share. What the book's journal holds beside the calls of one session is not the run's
 -- to say, so the replies of a name's lines are compared with the entries of its session. This project's profile.
-use Rattle.std.specs.Prelude.{ℕ, ◌≡◌, ◌≢◌, ◌⊎◌, ⊥, List, [], ◌∷◌, flat_map, Bool, false, ◌&&◌, if◌then◌else◌, All, IsTrue}
+use Rattle.std.specs.Prelude.{ℕ, ◌≡◌, ◌≢◌, ◌⊎◌, List, [], ◌∷◌, flat_map, Bool, false, ◌&&◌, if◌then◌else◌, All, IsTrue}
 use Rattle.scm_sequences.specs.declared.refusal.Refusal.TheVariants.{BadLine, NoMemory, TooManySessions}
 use Rattle.scm_cells.specs.Names.{name_eq}
 use Rattle.scm_book.specs.Calls.{CallData, ReplyData, refused}

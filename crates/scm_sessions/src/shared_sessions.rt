@@ -1,8 +1,10 @@
 //! The sessions of a run over a shared book.
-ghost use Rattle.std.specs.Prelude.{◌≡◌, ◌≤◌, [], ◌∷◌, ◌++◌, length, vec_capacity, true, OnOk, OnErr};
+ghost use Rattle.std.specs.Prelude.{◌≡◌, ◌<◌, ◌≤◌, ◌⊎◌, ℕ, List, [], ◌∷◌, ◌++◌, length, vec_capacity, IfOk, IfErr, OnOk, OnErr};
+ghost use Rattle.scm_sequences.specs.declared.refusal.Refusal.TheVariants.{NoMemory, TooManySessions};
 ghost use Rattle.scm_sequences.specs.declared.limits.TheConstants.{MOST_SESSIONS};
 ghost use Rattle.scm_shared.specs.Passes.{newcomer};
-ghost use Rattle.scm_sessions.specs.Callers.{callers};
+ghost use Rattle.scm_sessions.specs.Script.{session_of, with_name, is_turned_away};
+ghost use Rattle.scm_sessions.specs.Callers.{callers, made_by, AreNumberedFrom};
 
 use crate::answers::MakeCalls;
 use indexmap::IndexSet;
@@ -38,6 +40,25 @@ impl<'a, B: BookNaming, T: Wait> Model for SharedSessions<'a, B, T> {
         × AreNumberedFrom 0 s.passes.items };
 }
 
+/// Whether a session of this name can't enter: the name is new, and all sessions have entered.
+fn turns_away(names: &IndexSet<Name>, name: &Name) -> bool
+    ensures { result ≡ is_turned_away names.now.keys name.now }
+{
+    names.len() >= MOST_SESSIONS && !names.contains(name)
+}
+
+/// The place of this name, which comes last where it is new. Unchanged where memory is refused.
+fn enter_name(names: &mut IndexSet<Name>, name: Name) -> Result<usize, Refusal>
+    ensures ok { IfOk result (λ place. (place ≡ session_of names.old.keys name) × (names.new.keys ≡ with_name names.old.keys name)) }
+    ensures err { IfErr result (λ refusal. refusal ≡ NoMemory) }
+    ensures unchanged { OnErr result (names.new.keys ≡ names.old.keys) }
+{
+    match names.insert_full(name) {
+        Ok((place, _)) => Ok(place),
+        Err(_) => Err(Refusal::NoMemory),
+    }
+}
+
 /// Enters the shared book, and puts the new pass last. Unchanged after a refusal: `NoMemory`, or `TooManySessions` where all
 /// passes entered, or where others entered too, so that the number of the pass isn't its place.
 fn enter_next<B: BookNaming, T: Wait>(
@@ -46,7 +67,8 @@ fn enter_next<B: BookNaming, T: Wait>(
     passes: &mut Vec<Pass<B>>,
 ) -> Result<(), Refusal>
     ensures ok { OnOk result (passes.new.items ≡ passes.old.items ++ newcomer (length passes.old.items) ∷ []) }
-    ensures err { OnErr result (passes.new.items ≡ passes.old.items) }
+    ensures err { IfErr result (λ refusal. (refusal ≡ TooManySessions) ⊎ (refusal ≡ NoMemory)) }
+    ensures unchanged { OnErr result (passes.new.items ≡ passes.old.items) }
 {
     if passes.reserve(1).is_err() {
         return Err(Refusal::NoMemory);
@@ -72,21 +94,19 @@ impl<'a, B: BookNaming, T: Wait> SharedSessions<'a, B, T> {
         }
     }
 
-    /// Whether a session of this name can't enter: the name is new, and all sessions have entered.
-    fn turns_away(&self, name: &Name) -> bool {
-        self.names.len() >= MOST_SESSIONS && !self.names.contains(name)
-    }
-
-    /// The place of the session of this name, which enters where it is new. Refused `TooManySessions` or `NoMemory`;
-    /// unchanged after a refusal.
-    fn enter(&mut self, name: Name) -> Result<usize, Refusal> {
-        if self.turns_away(&name) {
+    /// The place of the session of this name, which enters where it is new. Refused `TooManySessions` or `NoMemory`.
+    fn enter(&mut self, name: Name) -> Result<usize, Refusal>
+        ensures ok { IfOk result (λ place. (place ≡ session_of self.new.names name) × (place < length self.new.passes)) }
+        ensures err { IfErr result (λ refusal. (refusal ≡ TooManySessions) ⊎ (refusal ≡ NoMemory)) }
+        ensures made { (other : List ℕ) → made_by self.new other ≡ made_by self.old other }
+    {
+        if turns_away(&self.names, &name) {
             return Err(Refusal::TooManySessions);
         }
-        let Ok((place, is_new)) = self.names.insert_full(name) else {
-            return Err(Refusal::NoMemory);
-        };
-        if is_new && let Err(refusal) = enter_next(self.rt, self.book, &mut self.passes) {
+        let place = enter_name(&mut self.names, name)?;
+        if place == self.passes.len()
+            && let Err(refusal) = enter_next(self.rt, self.book, &mut self.passes)
+        {
             self.names.truncate(place);
             return Err(refusal);
         }
@@ -99,6 +119,8 @@ impl<'a, B: BookNaming, T: Wait> SharedSessions<'a, B, T> {
         requires fits { MOST_SESSIONS ≤ vec_capacity room }
         ensures names { result.0.items ≡ self.names }
         ensures passes { result.1.items ≡ self.passes }
+        ensures each { length result.1.items ≡ length result.0.items }
+        ensures numbered { AreNumberedFrom 0 result.1.items }
     {
         let SharedSessions { names, passes, .. } = self;
         room.extend_from_slice(names.as_slice()).unwrap();

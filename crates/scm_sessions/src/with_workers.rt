@@ -1,5 +1,5 @@
 //! The run of a script with workers beside it.
-ghost use Rattle.std.specs.Prelude.{◌≡◌, ◌≢◌, ◌↔◌, [], true, false, IfOk, IfErr, OnOk, IsErrOf, IsTrue};
+ghost use Rattle.std.specs.Prelude.{◌≡◌, ◌≢◌, ◌↔◌, ℕ, List, [], true, false, IfOk, IfErr, OnOk, IsErrOf, IsTrue};
 ghost use Rattle.scm_book.specs.Journal.{IsLegalBook};
 ghost use Rattle.scm_sessions.specs.Ports.{inner_of, has_failed};
 ghost use Rattle.scm_sessions.specs.Reading.{unread_of};
