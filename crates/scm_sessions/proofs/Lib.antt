@@ -8,6 +8,4 @@ pub mod Numbering
 pub mod Naming
 pub mod Cutting
 pub mod Running
-pub mod Making
-pub mod Sharing
 mod WithText
