@@ -5,10 +5,10 @@ use Rattle.std.specs.List.{list_any, position_or_len}
 use Rattle.scm_cells.specs.Names.{name_eq}
 use Rattle.scm_book.specs.Calls.{CallData, ReplyData, EntryData}
 use Rattle.scm_book.specs.Journal.{BookState, count_of, makes_entry, IsCall}
-use Rattle.scm_sessions.specs.Lines.{Line}
-use Rattle.scm_sessions.specs.Asking.{Asked, nothing, bad, good, asked_by}
+use Rattle.scm_sessions.specs.Asking.{Asked, nothing, bad, good}
+use Rattle.scm_sessions.specs.Exchanges.{Exchange, Answers, RunsWhole}
 use Rattle.scm_sessions.specs.JournalText.{AreNamed}
-use Rattle.scm_sessions.specs.Script.{ScriptState, script_state, session_of, is_entered, with_name, AnswersCall, AnswersLine, IsScriptRun, RunsWhole}
+use Rattle.scm_sessions.specs.Script.{ScriptState, script_state, session_of, is_entered, with_name, AnswersCall, IsScriptRun}
 
 module _ {X : Type 0} (test : X → Bool) where
   found_at : (b : Bool) (x : X) (xs : List X) → test x ≡ b → (list_any test xs ≡ true → position_or_len test xs < length xs)
@@ -80,27 +80,27 @@ turned_or_entered false old name call reply new A answers named = entered_named 
 
 AnswersCall-named : (old : ScriptState) (name : List ℕ) (call : CallData) (reply : ReplyData) (new : ScriptState)
     → AnswersCall old name call reply new → IsNamed old → IsNamed new
-AnswersCall-named old name call reply new (inl answers) named = turned_or_entered _ old name call reply new _ answers named
-AnswersCall-named old name call reply new (inr answers) named = subst IsNamed (sym answers.1) named
+AnswersCall-named old name call reply new answers named = turned_or_entered _ old name call reply new _ answers named
 
-AnswersLine-named : (old : ScriptState) (asked : Asked) (text : List ℕ) (new : ScriptState) → AnswersLine old asked text new → IsNamed old → IsNamed new
-AnswersLine-named old nothing text new answers named = subst IsNamed (sym answers.1) named
-AnswersLine-named old (bad name) text new answers named = subst IsNamed (sym answers.2) named
-AnswersLine-named old (good name call) text new answers named = AnswersCall-named old name call answers.0 new answers.1 named
+Answers-named : (old : ScriptState) (asked : Asked) (reply : ReplyData) (new : ScriptState) → Answers AnswersCall old asked reply new → IsNamed old → IsNamed new
+Answers-named old nothing reply new answers named = absurd answers
+Answers-named old (bad name) reply new answers named = subst IsNamed (sym answers.1) named
+Answers-named old (good name call) reply new (inl answers) named = AnswersCall-named old name call reply new answers named
+Answers-named old (good name call) reply new (inr answers) named = subst IsNamed (sym answers.1) named
 
-IsScriptRun-named : (old : ScriptState) (lines : List Line) (text : List ℕ) (new : ScriptState) → IsScriptRun old lines text new → IsNamed old → IsNamed new
-IsScriptRun-named old [] text new run named = subst IsNamed (sym run.1) named
-IsScriptRun-named old (line ∷ lines) text new run named =
-    IsScriptRun-named run.0 lines run.2 new run.4 (AnswersLine-named old (asked_by line) run.1 run.0 run.3 named)
+IsScriptRun-named : (old : ScriptState) (exchanges : List Exchange) (new : ScriptState) → IsScriptRun old exchanges new → IsNamed old → IsNamed new
+IsScriptRun-named old [] new run named = subst IsNamed (sym run) named
+IsScriptRun-named old (e ∷ exchanges) new run named =
+    IsScriptRun-named run.0 exchanges new run.2 (Answers-named old e.asked e.reply run.0 run.1 named)
 
 -- a run from no entries
 pub RunsWhole-named : {script left written after : Option (List ℕ)} {old new : ScriptState} {book ended : BookState} {names : List (List ℕ)}
-    → RunsWhole script left written after old new → old ≡ script_state [] book → names ≡ new.names → ended ≡ new.book
+    → RunsWhole script left written after (λ exchanges. IsScriptRun old exchanges new) → old ≡ script_state [] book → names ≡ new.names → ended ≡ new.book
     → book.journal ≡ [] → AreNamed names ended.journal
 RunsWhole-named {script} {left} {written} {after} {old} {new} {book} {ended} {names} runs starts same_names same_book none =
     let P : EntryData → Type 0 = λ entry. entry.session < 0 in
     let Q : ScriptState → Type 0 = IsNamed in
     let before : IsNamed old = subst Q (sym starts) (subst (AreNamed []) (sym none) (All-nil P)) in
-    let later : IsNamed new = IsScriptRun-named old _ _ new runs.run before in
+    let later : IsNamed new = IsScriptRun-named old runs.exchanges new runs.run before in
     let R : List (List ℕ) → BookState → Type 0 = λ ns b. AreNamed ns b.journal in
     subst (λ (b : BookState). R names b) (sym same_book) (subst (λ (ns : List (List ℕ)). R ns new.book) (sym same_names) later)

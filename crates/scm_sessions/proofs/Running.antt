@@ -1,83 +1,124 @@
 -- A script run goes on by a line, and ends.
-use Rattle.std.proofs.Common.{◌≡◌, ℕ, List, [], ◌∷◌, ◌++◌, refl, sym, ap, ◌∙◌, subst, inl, inr, Option, None, Some, append_assoc, append-nil}
+use Rattle.std.proofs.Common.{◌≡◌, ℕ, List, [], ◌∷◌, ◌++◌, refl, sym, ap, ◌∙◌, subst, inl, inr, Option, None, Some, append_assoc, append-nil, map, filter}
+use Rattle.std.proofs.lemmas.List.{map-append}
+use Rattle.std.proofs.lemmas.List.Elements.{filter-append}
+use Rattle.std.proofs.lemmas.Grind.{flat_map-append}
 use Rattle.std.proofs.KnownBytes.{Consumes-nil, Consumes-trans, Consumes-kept, Appends-nil, Appends-kept, Appends-trans, prepend_known-nil}
 use Rattle.std.specs.Io.KnownBytes.{Consumes, Appends, Keeps, IsAtEnd, prepend_known}
+use Rattle.scm_book.specs.Calls.{CallData, ReplyData}
 use Rattle.scm_sessions.specs.declared.reading.Cut.TheVariants.{Whole, Last}
-use Rattle.scm_sessions.specs.Lines.{Line, whole_lines_of, HasNoFeed}
-use Rattle.scm_sessions.specs.Asking.{asked_by}
+use Rattle.scm_sessions.specs.Lines.{Line, line_of, whole_lines_of, HasNoFeed}
+use Rattle.scm_sessions.specs.Asking.{Asked, asked_by, name_in}
+use Rattle.scm_sessions.specs.Replies.{reply_line}
 use Rattle.scm_sessions.specs.Ports.{AppendsPart}
 use Rattle.scm_sessions.specs.Reading.{TakesLine}
-use Rattle.scm_sessions.specs.Script.{ScriptState, AnswersLine, IsScriptRun, RunsWhole, RunsWholeLines, RunsPart}
+use Rattle.scm_sessions.specs.Exchanges.{Exchange, has_reply, asked_in, asked_of, replies_text, Answers, LeadTo, RunsWhole, RunsWholeLines, RunsPart}
+use Rattle.scm_sessions.specs.Answering.{AnswersLine}
 use Rattle.scm_sessions.proofs.Cutting.{AreLines, AreLines-nil, AreLines-more, lines_of-end, lines_of-last, whole_lines_of-part}
 use Rattle.scm_sessions.proofs.Sent.{AppendsPart-after, AppendsPart-all}
 
--- a run goes on by one line
-pub IsScriptRun-more : (old : ScriptState) (lines : List Line) (text : List ℕ) (mid : ScriptState) (line : Line) (first : List ℕ) (new : ScriptState)
-    → IsScriptRun old lines text mid → AnswersLine mid (asked_by line) first new → IsScriptRun old (lines ++ line ∷ []) (text ++ first) new
-IsScriptRun-more old [] text mid line first new run answers =
-    let P : ScriptState → Type 0 = λ s. AnswersLine s (asked_by line) first new in
-    (new, first, [], subst P run.1 answers, (refl, refl), ap (λ l. l ++ first) run.0 ∙ sym (append-nil first))
-IsScriptRun-more old (l ∷ lines) text mid line first new run answers = (
-  run.0,
-  run.1,
-  run.2 ++ first,
-  run.3,
-  IsScriptRun-more run.0 lines run.2 mid line first new run.4 answers,
-  ap (λ t. t ++ first) run.5 ∙ append_assoc run.1 run.2 first,
-)
+asked_in-append : (lines more : List Line) → asked_in (lines ++ more) ≡ asked_in lines ++ asked_in more
+asked_in-append lines more =
+    ap (λ asked. filter has_reply asked) (map-append asked_by lines more) ∙ filter-append has_reply (map asked_by lines) (map asked_by more)
 
--- bytes were taken from a script and are lines, whose run wrote a text
-pub record HasRun (script left written after : Option (List ℕ)) (old new : ScriptState) : Type 0 where
+asked_of-append : (exchanges more : List Exchange) → asked_of (exchanges ++ more) ≡ asked_of exchanges ++ asked_of more
+asked_of-append exchanges more = map-append (λ e. e.asked) exchanges more
+
+replies_text-append : (exchanges more : List Exchange) → replies_text (exchanges ++ more) ≡ replies_text exchanges ++ replies_text more
+replies_text-append exchanges more = flat_map-append (λ e. reply_line (name_in e.asked) e.reply) exchanges more
+
+-- exchanges lead on from where others led
+pub LeadTo-append : {S : Type 0} (Calls : S → List ℕ → CallData → ReplyData → S → Type 0) (old : S) (exchanges : List Exchange) (mid : S) (more : List Exchange) (new : S)
+    → LeadTo Calls old exchanges mid → LeadTo Calls mid more new → LeadTo Calls old (exchanges ++ more) new
+LeadTo-append {S} Calls old [] mid more new lead then = let P : S → Type 0 = λ s. LeadTo Calls s more new in subst P lead then
+LeadTo-append {S} Calls old (e ∷ exchanges) mid more new lead then =
+    (lead.0, lead.1, LeadTo-append Calls lead.0 exchanges mid more new lead.2 then)
+
+-- bytes were taken from a script and are lines, whose replies were written
+pub record HasRun {S : Type 0} (script left written after : Option (List ℕ)) (Calls : S → List ℕ → CallData → ReplyData → S → Type 0) (old new : S) : Type 0 where
   pub bytes : List ℕ
   pub lines : List Line
-  pub text : List ℕ
+  pub exchanges : List Exchange
   pub read : Consumes script left bytes
   pub are : AreLines bytes lines
-  pub wrote : Appends written after text
-  pub run : IsScriptRun old lines text new
+  pub asked : asked_of exchanges ≡ asked_in lines
+  pub wrote : Appends written after (replies_text exchanges)
+  pub run : LeadTo Calls old exchanges new
 
 -- nothing was read yet
-pub HasRun-start : (unread : List ℕ) (script written : Option (List ℕ)) (old : ScriptState) → unread ≡ []
-    → HasRun script (prepend_known unread script) written written old old
-HasRun-start unread script written old none = record {
+pub HasRun-start : {S : Type 0} (unread : List ℕ) (script written : Option (List ℕ)) (Calls : S → List ℕ → CallData → ReplyData → S → Type 0) (old : S) → unread ≡ []
+    → HasRun script (prepend_known unread script) written written Calls old old
+HasRun-start unread script written Calls old none = record {
   bytes = [];
   lines = [];
-  text = [];
+  exchanges = [];
   read = let P : Option (List ℕ) → Type 0 = λ l. Consumes script l [] in
       subst P (sym (ap (λ u. prepend_known u script) none ∙ prepend_known-nil script)) (Consumes-nil script);
   are = AreLines-nil;
+  asked = refl;
   wrote = Appends-nil written;
-  run = (refl, refl);
+  run = refl;
 }
 
--- the writer was asked to pass on what it holds
-pub HasRun-kept : {script left written after : Option (List ℕ)} {old new : ScriptState}
-    → HasRun script left written after old new → (later : Option (List ℕ)) → Keeps after later → HasRun script left written later old new
-HasRun-kept {script} {left} {written} {after} {old} {new} had later kept = record {
-  bytes = had.bytes;
-  lines = had.lines;
-  text = had.text;
-  read = had.read;
-  are = had.are;
-  wrote = Appends-kept written after later had.text had.wrote kept;
-  run = had.run;
-}
+module _ {S : Type 0} {Calls : S → List ℕ → CallData → ReplyData → S → Type 0} where
+  -- the writer was asked to pass on what it holds
+  pub HasRun-kept : {script left written after : Option (List ℕ)} {old new : S}
+      → HasRun script left written after Calls old new → (later : Option (List ℕ)) → Keeps after later → HasRun script left written later Calls old new
+  HasRun-kept {script} {left} {written} {after} {old} {new} had later kept = record {
+    bytes = had.bytes;
+    lines = had.lines;
+    exchanges = had.exchanges;
+    read = had.read;
+    are = had.are;
+    asked = had.asked;
+    wrote = Appends-kept written after later (replies_text had.exchanges) had.wrote kept;
+    run = had.run;
+  }
 
--- one more whole line
-pub HasRun-more : {script left written after : Option (List ℕ)} {old mid : ScriptState} (next later : Option (List ℕ)) (line : Line)
-    (first : List ℕ) (new : ScriptState) → HasRun script left written after old mid → TakesLine Whole left next line
-    → AnswersLine mid (asked_by line) first new → Appends after later first → HasRun script next written later old new
-HasRun-more {script} {left} {written} {after} {old} {mid} next later line first new had takes answers wrote =
-    let P : Line → Type 0 = λ l. AnswersLine mid (asked_by l) first new in
-    record {
-      bytes = had.bytes ++ (takes.0 ++ 10 ∷ []);
-      lines = _;
-      text = had.text ++ first;
-      read = Consumes-trans script left next _ _ had.read takes.2;
-      are = AreLines-more takes.0 had.are takes.1;
-      wrote = Appends-trans written after later _ _ had.wrote wrote;
-      run = IsScriptRun-more old had.lines had.text mid _ first new had.run (subst P takes.3 answers);
-    }
+  -- what holds of the exchanges with those of a line after them
+
+  asked_with_line : {script left written after : Option (List ℕ)} {old mid new : S} (line : Line) {text : List ℕ}
+      (had : HasRun script left written after Calls old mid) (answers : AnswersLine Calls mid (asked_by line) text new)
+      → asked_of (had.exchanges ++ answers.exchanges) ≡ asked_in (had.lines ++ line ∷ [])
+  asked_with_line line had answers =
+      asked_of-append had.exchanges answers.exchanges ∙ ap (λ asked. asked ++ asked_of answers.exchanges) had.asked
+      ∙ ap (λ asked. asked_in had.lines ++ asked) answers.all ∙ sym (asked_in-append had.lines (line ∷ []))
+
+  text_with_line : {script left written after : Option (List ℕ)} {old mid new : S} (line : Line) {text : List ℕ}
+      (had : HasRun script left written after Calls old mid) (answers : AnswersLine Calls mid (asked_by line) text new)
+      → replies_text had.exchanges ++ text ≡ replies_text (had.exchanges ++ answers.exchanges)
+  text_with_line line had answers =
+      ap (λ t. replies_text had.exchanges ++ t) answers.replied ∙ sym (replies_text-append had.exchanges answers.exchanges)
+
+  wrote_with_line : {script left written after : Option (List ℕ)} (later : Option (List ℕ)) {old mid new : S} (line : Line) {text : List ℕ}
+      (had : HasRun script left written after Calls old mid) (answers : AnswersLine Calls mid (asked_by line) text new)
+      → Appends after later text → Appends written later (replies_text (had.exchanges ++ answers.exchanges))
+  wrote_with_line {script} {left} {written} {after} later line had answers wrote =
+      subst (Appends written later) (text_with_line line had answers) (Appends-trans written after later _ _ had.wrote wrote)
+
+  lead_with_line : {script left written after : Option (List ℕ)} {old mid new : S} (line : Line) {text : List ℕ}
+      (had : HasRun script left written after Calls old mid) (answers : AnswersLine Calls mid (asked_by line) text new)
+      → LeadTo Calls old (had.exchanges ++ answers.exchanges) new
+  lead_with_line {script} {left} {written} {after} {old} {mid} {new} line had answers =
+      LeadTo-append Calls old had.exchanges mid answers.exchanges new had.run answers.lead
+
+  -- one more whole line
+  pub HasRun-more : {script left written after : Option (List ℕ)} {old mid : S} (next later : Option (List ℕ)) (line : Line)
+      (text : List ℕ) (new : S) → HasRun script left written after Calls old mid → TakesLine Whole left next line
+      → AnswersLine Calls mid (asked_by line) text new → Appends after later text → HasRun script next written later Calls old new
+  HasRun-more {script} {left} {written} {after} {old} {mid} next later line text new had takes answers wrote =
+      let P : Line → Type 0 = λ l. AnswersLine Calls mid (asked_by l) text new in
+      let answered = subst P takes.3 answers in
+      record {
+        bytes = had.bytes ++ (takes.0 ++ 10 ∷ []);
+        lines = _;
+        exchanges = had.exchanges ++ answered.exchanges;
+        read = Consumes-trans script left next _ _ had.read takes.2;
+        are = AreLines-more takes.0 had.are takes.1;
+        asked = asked_with_line (line_of takes.0) had answered;
+        wrote = wrote_with_line later (line_of takes.0) had answered wrote;
+        run = lead_with_line (line_of takes.0) had answered;
+      }
 
 end_after : (unread : List ℕ) (script left : Option (List ℕ)) (bytes : List ℕ) → Consumes script (prepend_known unread left) bytes
     → IsAtEnd (prepend_known unread left) → Consumes script left bytes × IsAtEnd left
@@ -88,55 +129,6 @@ end_after unread (Some xs) None bytes read end = absurd read
 end_after [] (Some xs) (Some ys) bytes read end = (read, end)
 end_after (b ∷ unread) (Some xs) (Some ys) bytes read end = absurd (cc)
 
--- the script is at its end
-pub RunsWhole-end : {script left written after : Option (List ℕ)} {old new : ScriptState} (unread : List ℕ) (rest : Option (List ℕ))
-    → HasRun script left written after old new → IsAtEnd (prepend_known unread rest) × Keeps left (prepend_known unread rest)
-    → RunsWhole script rest written after old new
-RunsWhole-end {script} {left} {written} {after} {old} {new} unread rest had takes =
-    let ends = end_after unread script rest had.bytes (Consumes-kept script left _ had.bytes had.read takes.1) takes.0 in
-    let P : List Line → Type 0 = λ ls. IsScriptRun old ls had.text new in
-    record {
-      bytes = had.bytes;
-      text = had.text;
-      consumed = ends.0;
-      ended = ends.1;
-      appended = had.wrote;
-      run = subst P (sym (lines_of-end had.are)) had.run;
-    }
-
--- the last line has no line feed
-pub RunsWhole-last : {script left written after : Option (List ℕ)} {old mid : ScriptState} (unread : List ℕ) (rest later : Option (List ℕ)) (line : Line)
-    (first : List ℕ) (new : ScriptState) → HasRun script left written after old mid → TakesLine Last left (prepend_known unread rest) line
-    → AnswersLine mid (asked_by line) first new → Appends after later first → RunsWhole script rest written later old new
-RunsWhole-last {script} {left} {written} {after} {old} {mid} unread rest later line first new had takes answers wrote =
-    let ends = end_after unread script rest (had.bytes ++ takes.0) (Consumes-trans script left _ _ _ had.read takes.3) takes.4 in
-    let P : Line → Type 0 = λ l. AnswersLine mid (asked_by l) first new in
-    let Q : List Line → Type 0 = λ ls. IsScriptRun old ls (had.text ++ first) new in
-    record {
-      bytes = had.bytes ++ takes.0;
-      text = had.text ++ first;
-      consumed = ends.0;
-      ended = ends.1;
-      appended = Appends-trans written after later _ _ had.wrote wrote;
-      run = subst Q (sym (lines_of-last takes.0 had.are takes.1 takes.2))
-          (IsScriptRun-more old had.lines had.text mid _ first new had.run (subst P takes.5 answers));
-    }
-
--- a read failed
-pub RunsWholeLines-part : {script left written after : Option (List ℕ)} {old new : ScriptState} (rest : Option (List ℕ))
-    → HasRun script left written after old new → (part : List ℕ) × HasNoFeed part × Consumes left rest part
-    → RunsWholeLines script rest written after old
-RunsWholeLines-part {script} {left} {written} {after} {old} {new} rest had broken =
-    let P : List Line → Type 0 = λ ls. IsScriptRun old ls had.text new in
-    record {
-      bytes = had.bytes ++ broken.0;
-      text = had.text;
-      new = new;
-      consumed = Consumes-trans script left rest _ _ had.read broken.2;
-      appended = had.wrote;
-      run = subst P (sym (whole_lines_of-part broken.0 had.are broken.1)) had.run;
-    }
-
 -- what was read ahead counts as read
 read_ahead : (unread : List ℕ) (script left : Option (List ℕ)) (bytes : List ℕ) → Consumes script (prepend_known unread left) bytes
     → Consumes script left (bytes ++ unread)
@@ -144,54 +136,150 @@ read_ahead unread None left bytes read = tt
 read_ahead unread (Some xs) None bytes read = absurd read
 read_ahead unread (Some xs) (Some ys) bytes read = read ∙ sym (append_assoc bytes unread ys)
 
--- the writer failed to pass on what it holds
-pub RunsPart-held : {script written after : Option (List ℕ)} {old new : ScriptState} (unread : List ℕ) (rest later : Option (List ℕ))
-    → HasRun script (prepend_known unread rest) written after old new → Keeps after later → RunsPart script rest written later old
-RunsPart-held {script} {written} {after} {old} {new} unread rest later had kept = record {
-  bytes = had.bytes ++ unread;
-  lines = had.lines;
-  others = whole_lines_of unread;
-  text = had.text;
-  new = new;
-  consumed = read_ahead unread script rest had.bytes had.read;
-  read = inl (had.are.whole unread);
-  appended = AppendsPart-all written after later had.text had.wrote kept;
-  run = had.run;
+module _ {S : Type 0} {Calls : S → List ℕ → CallData → ReplyData → S → Type 0} where
+  -- the script is at its end
+  pub RunsWhole-end : {script left written after : Option (List ℕ)} {old new : S} (unread : List ℕ) (rest : Option (List ℕ))
+      → HasRun script left written after Calls old new → IsAtEnd (prepend_known unread rest) × Keeps left (prepend_known unread rest)
+      → RunsWhole script rest written after (λ exchanges. LeadTo Calls old exchanges new)
+  RunsWhole-end {script} {left} {written} {after} {old} {new} unread rest had takes =
+      let ends = end_after unread script rest had.bytes (Consumes-kept script left _ had.bytes had.read takes.1) takes.0 in
+      record {
+        bytes = had.bytes;
+        exchanges = had.exchanges;
+        consumed = ends.0;
+        ended = ends.1;
+        asked = had.asked ∙ ap asked_in (sym (lines_of-end had.are));
+        appended = had.wrote;
+        run = had.run;
+      }
+
+  -- the last line has no line feed
+  pub RunsWhole-last : {script left written after : Option (List ℕ)} {old mid : S} (unread : List ℕ) (rest later : Option (List ℕ)) (line : Line)
+      (text : List ℕ) (new : S) → HasRun script left written after Calls old mid → TakesLine Last left (prepend_known unread rest) line
+      → AnswersLine Calls mid (asked_by line) text new → Appends after later text → RunsWhole script rest written later (λ exchanges. LeadTo Calls old exchanges new)
+  RunsWhole-last {script} {left} {written} {after} {old} {mid} unread rest later line text new had takes answers wrote =
+      let ends = end_after unread script rest (had.bytes ++ takes.0) (Consumes-trans script left _ _ _ had.read takes.3) takes.4 in
+      let P : Line → Type 0 = λ l. AnswersLine Calls mid (asked_by l) text new in
+      let answered = subst P takes.5 answers in
+      record {
+        bytes = had.bytes ++ takes.0;
+        exchanges = had.exchanges ++ answered.exchanges;
+        consumed = ends.0;
+        ended = ends.1;
+        asked = asked_with_line (line_of takes.0) had answered ∙ ap asked_in (sym (lines_of-last takes.0 had.are takes.1 takes.2));
+        appended = wrote_with_line later (line_of takes.0) had answered wrote;
+        run = lead_with_line (line_of takes.0) had answered;
+      }
+
+  -- a read failed
+  pub RunsWholeLines-part : {script left written after : Option (List ℕ)} {old new : S} (rest : Option (List ℕ))
+      → HasRun script left written after Calls old new → (part : List ℕ) × HasNoFeed part × Consumes left rest part
+      → RunsWholeLines script rest written after (λ exchanges. LeadTo Calls old exchanges new)
+  RunsWholeLines-part {script} {left} {written} {after} {old} {new} rest had broken = record {
+    bytes = had.bytes ++ broken.0;
+    exchanges = had.exchanges;
+    consumed = Consumes-trans script left rest _ _ had.read broken.2;
+    asked = had.asked ∙ ap asked_in (sym (whole_lines_of-part broken.0 had.are broken.1));
+    appended = had.wrote;
+    run = had.run;
+  }
+
+  -- the writer failed to pass on what it holds
+  pub RunsPart-held : {script written after : Option (List ℕ)} {old new : S} (unread : List ℕ) (rest later : Option (List ℕ))
+      → HasRun script (prepend_known unread rest) written after Calls old new → Keeps after later
+      → RunsPart script rest written later (λ exchanges. LeadTo Calls old exchanges new)
+  RunsPart-held {script} {written} {after} {old} {new} unread rest later had kept = record {
+    bytes = had.bytes ++ unread;
+    lines = had.lines;
+    others = whole_lines_of unread;
+    exchanges = had.exchanges;
+    consumed = read_ahead unread script rest had.bytes had.read;
+    read = inl (had.are.whole unread);
+    asked = had.asked;
+    appended = AppendsPart-all written after later (replies_text had.exchanges) had.wrote kept;
+    run = had.run;
+  }
+
+  part_with_line : {script left written after later : Option (List ℕ)} {old mid new : S} (line : Line) {text : List ℕ}
+      (had : HasRun script left written after Calls old mid) (answers : AnswersLine Calls mid (asked_by line) text new)
+      → AppendsPart after later text → AppendsPart written later (replies_text (had.exchanges ++ answers.exchanges))
+  part_with_line {script} {left} {written} {after} {later} {old} {mid} {new} line {text} had answers wrote =
+      subst (AppendsPart written later) (text_with_line line had answers) (AppendsPart-after (replies_text had.exchanges) had.wrote wrote)
+
+  -- a write failed at the reply to a whole line
+  pub RunsPart-whole : {script left written after : Option (List ℕ)} {old mid : S} (unread : List ℕ) (rest later : Option (List ℕ)) (line : Line)
+      (text : List ℕ) (new : S) → HasRun script left written after Calls old mid → TakesLine Whole left (prepend_known unread rest) line
+      → AnswersLine Calls mid (asked_by line) text new → AppendsPart after later text → RunsPart script rest written later (λ exchanges. LeadTo Calls old exchanges new)
+  RunsPart-whole {script} {left} {written} {after} {old} {mid} unread rest later line text new had takes answers wrote =
+      let P : Line → Type 0 = λ l. AnswersLine Calls mid (asked_by l) text new in
+      let answered = subst P takes.3 answers in
+      record {
+        bytes = (had.bytes ++ (takes.0 ++ 10 ∷ [])) ++ unread;
+        lines = _;
+        others = whole_lines_of unread;
+        exchanges = had.exchanges ++ answered.exchanges;
+        consumed = read_ahead unread script rest _ (Consumes-trans script left _ _ _ had.read takes.2);
+        read = inl ((AreLines-more takes.0 had.are takes.1).whole unread);
+        asked = asked_with_line (line_of takes.0) had answered;
+        appended = part_with_line (line_of takes.0) had answered wrote;
+        run = lead_with_line (line_of takes.0) had answered;
+      }
+
+  -- a write failed at the reply to a last line with no line feed
+  pub RunsPart-last : {script left written after : Option (List ℕ)} {old mid : S} (unread : List ℕ) (rest later : Option (List ℕ)) (line : Line)
+      (text : List ℕ) (new : S) → HasRun script left written after Calls old mid → TakesLine Last left (prepend_known unread rest) line
+      → AnswersLine Calls mid (asked_by line) text new → AppendsPart after later text → RunsPart script rest written later (λ exchanges. LeadTo Calls old exchanges new)
+  RunsPart-last {script} {left} {written} {after} {old} {mid} unread rest later line text new had takes answers wrote =
+      let ends = end_after unread script rest (had.bytes ++ takes.0) (Consumes-trans script left _ _ _ had.read takes.3) takes.4 in
+      let P : Line → Type 0 = λ l. AnswersLine Calls mid (asked_by l) text new in
+      let answered = subst P takes.5 answers in
+      record {
+        bytes = had.bytes ++ takes.0;
+        lines = _;
+        others = [];
+        exchanges = had.exchanges ++ answered.exchanges;
+        consumed = ends.0;
+        read = inr (ends.1, lines_of-last takes.0 had.are takes.1 takes.2 ∙ sym (append-nil _));
+        asked = asked_with_line (line_of takes.0) had answered;
+        appended = part_with_line (line_of takes.0) had answered wrote;
+        run = lead_with_line (line_of takes.0) had answered;
+      }
+
+-- ---- what is said of the exchanges may be said otherwise
+
+pub RunsWhole-map : {script left written after : Option (List ℕ)} {Run Other : List Exchange → Type 0}
+    → ((exchanges : List Exchange) → Run exchanges → Other exchanges) → RunsWhole script left written after Run → RunsWhole script left written after Other
+RunsWhole-map to had = record {
+  bytes = had.bytes;
+  exchanges = had.exchanges;
+  consumed = had.consumed;
+  ended = had.ended;
+  asked = had.asked;
+  appended = had.appended;
+  run = to had.exchanges had.run;
 }
 
--- a write failed at the reply to a whole line
-pub RunsPart-whole : {script left written after : Option (List ℕ)} {old mid : ScriptState} (unread : List ℕ) (rest later : Option (List ℕ)) (line : Line)
-    (first : List ℕ) (new : ScriptState) → HasRun script left written after old mid → TakesLine Whole left (prepend_known unread rest) line
-    → AnswersLine mid (asked_by line) first new → AppendsPart after later first → RunsPart script rest written later old
-RunsPart-whole {script} {left} {written} {after} {old} {mid} unread rest later line first new had takes answers wrote =
-    let P : Line → Type 0 = λ l. AnswersLine mid (asked_by l) first new in
-    record {
-      bytes = (had.bytes ++ (takes.0 ++ 10 ∷ [])) ++ unread;
-      lines = _;
-      others = whole_lines_of unread;
-      text = had.text ++ first;
-      new = new;
-      consumed = read_ahead unread script rest _ (Consumes-trans script left _ _ _ had.read takes.2);
-      read = inl ((AreLines-more takes.0 had.are takes.1).whole unread);
-      appended = AppendsPart-after had.text had.wrote wrote;
-      run = IsScriptRun-more old had.lines had.text mid _ first new had.run (subst P takes.3 answers);
-    }
+pub RunsWholeLines-map : {script left written after : Option (List ℕ)} {Run Other : List Exchange → Type 0}
+    → ((exchanges : List Exchange) → Run exchanges → Other exchanges) → RunsWholeLines script left written after Run → RunsWholeLines script left written after Other
+RunsWholeLines-map to had = record {
+  bytes = had.bytes;
+  exchanges = had.exchanges;
+  consumed = had.consumed;
+  asked = had.asked;
+  appended = had.appended;
+  run = to had.exchanges had.run;
+}
 
--- a write failed at the reply to a last line with no line feed
-pub RunsPart-last : {script left written after : Option (List ℕ)} {old mid : ScriptState} (unread : List ℕ) (rest later : Option (List ℕ)) (line : Line)
-    (first : List ℕ) (new : ScriptState) → HasRun script left written after old mid → TakesLine Last left (prepend_known unread rest) line
-    → AnswersLine mid (asked_by line) first new → AppendsPart after later first → RunsPart script rest written later old
-RunsPart-last {script} {left} {written} {after} {old} {mid} unread rest later line first new had takes answers wrote =
-    let ends = end_after unread script rest (had.bytes ++ takes.0) (Consumes-trans script left _ _ _ had.read takes.3) takes.4 in
-    let P : Line → Type 0 = λ l. AnswersLine mid (asked_by l) first new in
-    record {
-      bytes = had.bytes ++ takes.0;
-      lines = _;
-      others = [];
-      text = had.text ++ first;
-      new = new;
-      consumed = ends.0;
-      read = inr (ends.1, lines_of-last takes.0 had.are takes.1 takes.2 ∙ sym (append-nil _));
-      appended = AppendsPart-after had.text had.wrote wrote;
-      run = IsScriptRun-more old had.lines had.text mid _ first new had.run (subst P takes.5 answers);
-    }
+pub RunsPart-map : {script left written after : Option (List ℕ)} {Run Other : List Exchange → Type 0}
+    → ((exchanges : List Exchange) → Run exchanges → Other exchanges) → RunsPart script left written after Run → RunsPart script left written after Other
+RunsPart-map to had = record {
+  bytes = had.bytes;
+  lines = had.lines;
+  others = had.others;
+  exchanges = had.exchanges;
+  consumed = had.consumed;
+  read = had.read;
+  asked = had.asked;
+  appended = had.appended;
+  run = to had.exchanges had.run;
+}

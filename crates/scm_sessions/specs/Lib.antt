@@ -5,7 +5,9 @@ pub mod Words
 pub mod Commands
 pub mod Asking
 pub mod Replies
+pub mod Exchanges
 pub mod Script
+pub mod Answering
 pub mod JournalText
 pub use Rattle.scm_sequences.specs.Refusals
 pub use Rattle.scm_cells.specs.Names

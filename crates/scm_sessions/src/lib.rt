@@ -1,6 +1,7 @@
 //! Scripts: what their lines ask of a book, the replies as text, and the run from bytes to bytes.
 #![tactic(auto)]
 
+mod answers;
 mod arguments;
 mod asking;
 mod calls;

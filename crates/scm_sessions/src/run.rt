@@ -7,8 +7,11 @@ ghost use Rattle.scm_sessions.specs.Ports.{inner_of, has_failed, Writes};
 ghost use Rattle.scm_sessions.specs.Reading.{unread_of};
 ghost use Rattle.scm_book.specs.Journal.{IsLegalBook};
 ghost use Rattle.scm_sessions.specs.JournalText.{AreNamed};
-ghost use Rattle.scm_sessions.specs.Script.{script_state, AnswersLine, RunsWhole, RunsWholeLines, RunsPart};
+ghost use Rattle.scm_sessions.specs.Exchanges.{LeadTo, RunsWhole, RunsWholeLines, RunsPart};
+ghost use Rattle.scm_sessions.specs.Answering.{AnswersLine};
+ghost use Rattle.scm_sessions.specs.Script.{script_state, IsScriptRun, IsScriptBeginning};
 
+use crate::answers::{MakeCalls, answer_line};
 use crate::reading::{Cut, LineReader};
 use crate::replies::send_reply;
 use crate::sessions::Sessions;
@@ -20,20 +23,20 @@ use std::alloc::Global;
 use std::io::{Read, Write};
 
 /// Answers a line, and hands the reply to the writer where it has one; `None` stands for a line that is too long.
-fn answer_line<W: Write>(
+fn send_answer<S: MakeCalls, W: Write>(
     alloc: Global,
-    sessions: &mut Sessions,
+    sessions: &mut S,
     line: Option<&[u8]>,
     writer: &mut Port<W>,
 ) -> Result<(), RunFault>
     requires { has_failed writer.old ≡ false }
     ensures answered { (text : List ℕ)
-        × AnswersLine sessions.old (asked_by (line_given (option_copied line.entry))) text sessions.new
+        × AnswersLine S.calls sessions.old (asked_by (line_given (option_copied line.entry))) text sessions.new
         × Writes (W.contents (inner_of writer.old)) (W.contents (inner_of writer.new)) result text }
     ensures fault { IfErr result (λ fault. fault ≡ RunFault.WriteFailed) }
     ensures failed { has_failed writer.new ≡ is_err result }
 {
-    match sessions.answer(alloc, line) {
+    match answer_line(alloc, sessions, line) {
         Some(answer) => send_reply(writer, answer.name.as_ref(), &answer.reply),
         None => Ok(()),
     }
@@ -54,9 +57,9 @@ fn flush_before_read<W: Write>(lines: &LineReader, writer: &mut Port<W>) -> Resu
 }
 
 /// Answers each line of the script that is left, up to a fault.
-fn run_lines<R: Read, W: Write>(
+pub(crate) fn run_lines<S: MakeCalls, R: Read, W: Write>(
     alloc: Global,
-    sessions: &mut Sessions,
+    sessions: &mut S,
     lines: &mut LineReader,
     reader: &mut Port<R>,
     writer: &mut Port<W>,
@@ -65,13 +68,16 @@ fn run_lines<R: Read, W: Write>(
     requires reads { has_failed reader.old ≡ false }
     requires writes { has_failed writer.old ≡ false }
     ensures ok { OnOk result (RunsWhole (R.remaining (inner_of reader.old)) (R.remaining (inner_of reader.new))
-        (W.contents (inner_of writer.old)) (W.contents (inner_of writer.new)) sessions.old sessions.new) }
+        (W.contents (inner_of writer.old)) (W.contents (inner_of writer.new))
+        (λ exchanges. LeadTo S.calls sessions.old exchanges sessions.new)) }
     ensures read_failed { IsErrOf result RunFault.ReadFailed →
         RunsWholeLines (R.remaining (inner_of reader.old)) (R.remaining (inner_of reader.new))
-        (W.contents (inner_of writer.old)) (W.contents (inner_of writer.new)) sessions.old }
+        (W.contents (inner_of writer.old)) (W.contents (inner_of writer.new))
+        (λ exchanges. LeadTo S.calls sessions.old exchanges sessions.new) }
     ensures write_failed { IsErrOf result RunFault.WriteFailed →
         RunsPart (R.remaining (inner_of reader.old)) (R.remaining (inner_of reader.new))
-        (W.contents (inner_of writer.old)) (W.contents (inner_of writer.new)) sessions.old }
+        (W.contents (inner_of writer.old)) (W.contents (inner_of writer.new))
+        (λ exchanges. LeadTo S.calls sessions.old exchanges sessions.new) }
     ensures reader_failed { IsErrOf result RunFault.ReadFailed ↔ (has_failed reader.new ≡ true) }
     ensures writer_failed { IsErrOf result RunFault.WriteFailed ↔ (has_failed writer.new ≡ true) }
     ensures memory { IfErr result (λ fault. fault ≢ RunFault.NoMemory) }
@@ -79,9 +85,9 @@ fn run_lines<R: Read, W: Write>(
     'each: loop {
         flush_before_read(lines, writer)?;
         match lines.next_line(reader)? {
-            Cut::Whole => answer_line(alloc, sessions, lines.line(), writer)?,
+            Cut::Whole => send_answer(alloc, sessions, lines.line(), writer)?,
             Cut::Last => {
-                answer_line(alloc, sessions, lines.line(), writer)?;
+                send_answer(alloc, sessions, lines.line(), writer)?;
                 writer.flush()?;
                 return Ok(());
             }
@@ -107,15 +113,15 @@ pub fn run_script<R: Read, W: Write>(
     requires writes { has_failed writer.old ≡ false }
     ensures ok { IfOk result (λ ended. RunsWhole (R.remaining (inner_of reader.old)) (R.remaining (inner_of reader.new))
         (W.contents (inner_of writer.old)) (W.contents (inner_of writer.new))
-        (script_state [] book) (script_state ended.1.items ended.0)) }
+        (λ exchanges. IsScriptRun (script_state [] book) exchanges (script_state ended.1.items ended.0))) }
     ensures named { IfOk result (λ ended. book.journal ≡ [] → AreNamed ended.1.items ended.0.journal) }
     ensures legal { IfOk result (λ ended. IsLegalBook ended.0) }
     ensures read_failed { IsErrOf result RunFault.ReadFailed →
         RunsWholeLines (R.remaining (inner_of reader.old)) (R.remaining (inner_of reader.new))
-        (W.contents (inner_of writer.old)) (W.contents (inner_of writer.new)) (script_state [] book) }
+        (W.contents (inner_of writer.old)) (W.contents (inner_of writer.new)) (IsScriptBeginning (script_state [] book)) }
     ensures write_failed { IsErrOf result RunFault.WriteFailed →
         RunsPart (R.remaining (inner_of reader.old)) (R.remaining (inner_of reader.new))
-        (W.contents (inner_of writer.old)) (W.contents (inner_of writer.new)) (script_state [] book) }
+        (W.contents (inner_of writer.old)) (W.contents (inner_of writer.new)) (IsScriptBeginning (script_state [] book)) }
     ensures reader_failed { IsErrOf result RunFault.ReadFailed ↔ (has_failed reader.new ≡ true) }
     ensures writer_failed { IsErrOf result RunFault.WriteFailed ↔ (has_failed writer.new ≡ true) }
     ensures no_memory { IsErrOf result RunFault.NoMemory →

@@ -1,16 +1,11 @@
 //! The state of a script run: the names of the sessions, and the book.
-ghost use Rattle.std.specs.Prelude.{◌≡◌, ◌⊎◌, ◌≤◌, [], length, vec_capacity, true, false, IfOk, IfErr, OnErr, option_copied};
+ghost use Rattle.std.specs.Prelude.{◌≡◌, ◌⊎◌, ◌≤◌, [], vec_capacity, true, false, IfOk, IfErr, OnErr};
 ghost use Rattle.scm_sequences.specs.declared.refusal.Refusal.TheVariants.{NoMemory, TooManySessions};
 ghost use Rattle.scm_sequences.specs.declared.limits.TheConstants.{MOST_SESSIONS};
-ghost use Rattle.scm_book.specs.Calls.{call_data, reply_data};
 ghost use Rattle.scm_book.specs.Journal.{IsLegalBook};
-ghost use Rattle.scm_sessions.specs.Lines.{line_given};
-ghost use Rattle.scm_sessions.specs.Asking.{asked_by, asked_data};
-ghost use Rattle.scm_sessions.specs.Replies.{answer_text};
-ghost use Rattle.scm_sessions.specs.Script.{script_state, session_of, with_name, is_turned_away, AnswersCall, AnswersLine};
+ghost use Rattle.scm_sessions.specs.Script.{script_state, session_of, with_name, is_turned_away};
 
-use crate::asking::{Asked, read_asked};
-use crate::replies::Answer;
+use crate::answers::MakeCalls;
 use indexmap::IndexSet;
 use scm_book::{Book, Call, Reply};
 use scm_cells::Name;
@@ -74,46 +69,6 @@ impl Sessions {
         Ok(place as u16)
     }
 
-    /// Makes a call of the session of this name.
-    fn call(&mut self, name: Name, call: Call) -> Reply
-        ensures { AnswersCall self.old name (call_data call) (reply_data result) self.new }
-    {
-        match self.enter(name) {
-            Ok(session) => self.book.call(session, call),
-            Err(refusal) => Reply::Refused(refusal),
-        }
-    }
-
-    /// The answer to a line that asks this, where it has one.
-    fn answer_asked(&mut self, asked: Asked) -> Option<Answer>
-        ensures { AnswersLine self.old (asked_data asked) (answer_text result) self.new }
-    {
-        match asked {
-            Asked::Nothing => None,
-            Asked::Bad(name) => Some(Answer {
-                name,
-                reply: Reply::Refused(Refusal::BadLine),
-            }),
-            Asked::Good { session, call } => Some(Answer {
-                name: Some(session),
-                reply: self.call(session, call),
-            }),
-        }
-    }
-
-    /// The answer to a line, where it has one; `None` stands for a line that is too long.
-    pub(crate) fn answer(&mut self, alloc: Global, line: Option<&[u8]>) -> Option<Answer>
-        ensures { AnswersLine self.old (asked_by (line_given (option_copied line.entry))) (answer_text result) self.new }
-    {
-        match read_asked(alloc, line) {
-            Ok(asked) => self.answer_asked(asked),
-            Err(unread) => Some(Answer {
-                name: Some(unread.session),
-                reply: Reply::Refused(Refusal::NoMemory),
-            }),
-        }
-    }
-
     /// The book, and the names in the order of their entry, which go into `room`.
     pub(crate) fn into_parts(self, mut room: Vec<Name>) -> (Book, Vec<Name>)
         requires empty { room.items ≡ [] }
@@ -125,5 +80,18 @@ impl Sessions {
         let Sessions { names, book } = self;
         room.extend_from_slice(names.as_slice()).unwrap();
         (book, room)
+    }
+}
+
+impl MakeCalls for Sessions {
+    ghost use Rattle.scm_sessions.specs.Script.{AnswersCall};
+
+    ghost calls = { AnswersCall };
+
+    fn call(&mut self, name: Name, call: Call) -> Reply {
+        match self.enter(name) {
+            Ok(session) => self.book.call(session, call),
+            Err(refusal) => Reply::Refused(refusal),
+        }
     }
 }
