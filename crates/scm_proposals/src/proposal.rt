@@ -6,11 +6,14 @@ use crate::walk::Walk;
 use scm_sequences::{Lengths, Sequences};
 use std::alloc::Global;
 
-/// How many visits and moves are made at most for each operation that is left, how many for each whatever the limit, and
-/// how many for any trace. One costs about as much as a situation that is searched.
+/// How many visits and moves are made at most for each operation that is left.
 const MOST_FUEL: u64 = 192;
 
-const FUEL: u64 = 96;
+/// How many are made for each operation, for each situation of the limit, and for any trace. One costs about as much as
+/// a situation that is searched.
+const FUEL: u64 = 8;
+
+const FUEL_OF_SITUATION: u64 = 2;
 
 const LEAST_FUEL: u64 = 10_000;
 
@@ -99,7 +102,7 @@ impl Proposer<'_> {
     /// The fuel for so many operations.
     fn fuel(&self, ops: u64) -> u64 {
         ops.saturating_mul(FUEL)
-            .saturating_add(self.limit as u64)
+            .saturating_add((self.limit as u64).saturating_mul(FUEL_OF_SITUATION))
             .min(ops.saturating_mul(MOST_FUEL))
             .saturating_add(LEAST_FUEL)
     }

@@ -41,7 +41,7 @@ fn has_legal_proposal_from(
     assert!(rt; initials.len() <= MOST_CELLS);
     assert!(rt; lengths.within(&sequences.lengths()));
     assert!(rt; sequences.names_cells_below(initials.len()));
-    match propose(alloc, initials, sequences, &lengths, earlier, 100) {
+    match propose(alloc, initials, sequences, &lengths, earlier, 10_000) {
         Some(places) => is_legal(initials, sequences, &lengths, &places),
         None => false,
     }
