@@ -7,15 +7,11 @@ mod amo;
 #[cfg(test)]
 mod amo_corners;
 #[cfg(test)]
-mod book;
-#[cfg(test)]
 mod budget;
 #[cfg(test)]
 mod cells;
 #[cfg(test)]
 mod cutting;
-#[cfg(test)]
-mod deliveries;
 #[cfg(test)]
 mod frontier;
 #[cfg(test)]
@@ -29,14 +25,8 @@ mod names;
 #[cfg(test)]
 mod numbers;
 #[cfg(test)]
-mod reach;
-#[cfg(test)]
 mod refutations;
 #[cfg(test)]
 mod schedules;
 #[cfg(test)]
 mod sequences;
-#[cfg(test)]
-mod tasks;
-#[cfg(test)]
-mod words;
