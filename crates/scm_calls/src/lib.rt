@@ -9,24 +9,4 @@ mod amo_corners;
 #[cfg(test)]
 mod budget;
 #[cfg(test)]
-mod cells;
-#[cfg(test)]
-mod cutting;
-#[cfg(test)]
 mod frontier;
-#[cfg(test)]
-mod initials;
-#[cfg(test)]
-mod lowering;
-#[cfg(test)]
-mod marks;
-#[cfg(test)]
-mod names;
-#[cfg(test)]
-mod numbers;
-#[cfg(test)]
-mod refutations;
-#[cfg(test)]
-mod schedules;
-#[cfg(test)]
-mod sequences;

@@ -2,5 +2,7 @@
 #![tactic(auto)]
 
 mod marks;
+#[cfg(test)]
+mod tests;
 
 pub use marks::Marks;
