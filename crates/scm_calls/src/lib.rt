@@ -10,3 +10,7 @@ mod amo_corners;
 mod budget;
 #[cfg(test)]
 mod frontier;
+#[cfg(test)]
+mod lowering;
+#[cfg(test)]
+mod marks;

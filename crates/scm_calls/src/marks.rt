@@ -1,5 +1,5 @@
 //! What no clause says: that calls succeed.
-use crate::Marks;
+use scm_marks::Marks;
 use scm_sequences::{Lengths, MOST_MARKS, Refusal};
 use std::test::Fail;
 

@@ -1,5 +1,5 @@
-use crate::{lower, read_access};
 use scm_cells::{Cells, Initial, Name, Num, Width};
+use scm_lowering::{lower, read_access};
 use scm_sequences::{Op, Refusal};
 use std::alloc::Global;
 use std::test::Fail;
