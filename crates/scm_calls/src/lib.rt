@@ -7,36 +7,10 @@ mod amo;
 #[cfg(test)]
 mod amo_corners;
 #[cfg(test)]
-mod book;
-#[cfg(test)]
 mod budget;
 #[cfg(test)]
-mod cells;
-#[cfg(test)]
-mod cutting;
-#[cfg(test)]
-mod deliveries;
-#[cfg(test)]
 mod frontier;
-#[cfg(test)]
-mod initials;
 #[cfg(test)]
 mod lowering;
 #[cfg(test)]
 mod marks;
-#[cfg(test)]
-mod names;
-#[cfg(test)]
-mod numbers;
-#[cfg(test)]
-mod reach;
-#[cfg(test)]
-mod refutations;
-#[cfg(test)]
-mod schedules;
-#[cfg(test)]
-mod sequences;
-#[cfg(test)]
-mod tasks;
-#[cfg(test)]
-mod words;

@@ -139,3 +139,79 @@ fn collect_initials(cells: &IndexMap<Name, Cell>) -> Result<Vec<Option<u64>>, Al
         .map(|cell| cell.initial)
         .collect(*cells.allocator())
 }
+
+#[cfg(test)]
+mod tests {
+    use super::*;
+    use crate::{Num, read_initial};
+    use std::process::Abort;
+    use std::test::Fail;
+
+    fn name(rt: &impl Abort, word: &str) -> Name {
+        Name::read(word.as_bytes()).expect(rt, "a name")
+    }
+
+    fn initial(rt: &impl Abort, word: &str) -> Initial {
+        read_initial(word.as_bytes()).expect(rt, "a number or ?")
+    }
+
+    fn given(number: u64) -> Initial {
+        Initial::Given(Num::Plain(number))
+    }
+
+    #[test]
+    fn adds_and_finds_cells(rt: HostRuntime) -> Result<(), Fail> {
+        let mut cells = Cells::new(rt.alloc());
+        assert!(rt; cells.is_empty());
+        assert_eq!(rt; cells.add(name(&rt, "x"), Width::W, initial(&rt, "-1"))?, 0);
+        assert_eq!(rt; cells.add(name(&rt, "y"), Width::D, initial(&rt, "7"))?, 1);
+        assert_eq!(rt; cells.add(name(&rt, "later"), Width::W, Initial::Unset)?, 2);
+        assert_eq!(rt; cells.len(), 3);
+        assert_eq!(rt; cells.find(&name(&rt, "x")), Some(0));
+        assert_eq!(rt; cells.find(&name(&rt, "y")), Some(1));
+        assert_eq!(rt; cells.find(&name(&rt, "z")), None);
+        assert!(rt; cells.name(1) == name(&rt, "y"));
+        assert_eq!(rt; cells.width(0), Width::W);
+        assert_eq!(rt; cells.initial(0), Some(4294967295));
+        let initials = cells.initials()?;
+        assert_eq!(rt;
+            initials.as_slice(),
+            [Some(4294967295), Some(7), None].as_slice()
+        );
+        Ok(())
+    }
+
+    #[test]
+    fn refuses_a_name_twice(rt: HostRuntime) -> Result<(), Fail> {
+        let mut cells = Cells::new(rt.alloc());
+        cells.add(name(&rt, "x"), Width::W, given(1))?;
+        let again = cells.add(name(&rt, "x"), Width::D, given(2));
+        assert_eq!(rt; again, Err(Refusal::BadDeclaration));
+        assert_eq!(rt; cells.len(), 1);
+        Ok(())
+    }
+
+    #[test]
+    fn refuses_a_value_that_does_not_fit(rt: HostRuntime) {
+        let mut cells = Cells::new(rt.alloc());
+        let added = cells.add(name(&rt, "x"), Width::W, initial(&rt, "4294967296"));
+        assert_eq!(rt; added, Err(Refusal::BadDeclaration));
+        assert!(rt; cells.is_empty());
+    }
+
+    #[test]
+    fn refuses_a_cell_past_the_limit(rt: HostRuntime) -> Result<(), Fail> {
+        let mut cells = Cells::new(rt.alloc());
+        for i in 0..MOST_CELLS {
+            let name = Name::read(&[b'a' + (i / 10) as u8, b'0' + (i % 10) as u8]).expect(
+                &rt, "a name",
+            );
+            cells.add(name, Width::D, given(0))?;
+        }
+        assert_eq!(rt; cells.len(), 64);
+        let added = cells.add(name(&rt, "q"), Width::D, given(0));
+        assert_eq!(rt; added, Err(Refusal::BadDeclaration));
+        assert_eq!(rt; cells.find(&name(&rt, "g3")), Some(63));
+        Ok(())
+    }
+}

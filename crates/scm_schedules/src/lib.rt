@@ -7,6 +7,8 @@ mod gathering;
 mod legal;
 mod links;
 mod refuting;
+#[cfg(test)]
+mod refuting_tests;
 mod walk;
 
 pub use fixing::fixed;
@@ -14,3 +16,6 @@ pub use gathering::refutation;
 pub use legal::is_legal;
 pub use links::schedule;
 pub use refuting::refutes;
+
+#[cfg(test)]
+mod tests;

@@ -4,7 +4,7 @@ use Rattle.scm_sequences.specs.Ops.{NamesCellsBelow}
 use Rattle.scm_sequences.specs.SequenceLaws.{length-cut_lists}
 use Rattle.scm_sequences.specs.Traces.{trace_of, cut_to}
 use Rattle.scm_cells.specs.CellLists.{Declared}
-use Rattle.scm_calls.proofs.refutations.settled.Goals as goal
+use Rattle.scm_schedules.proofs.refuting_tests.settled.Goals as goal
 
 pub settle-requires-clause-cells : goal.settle-requires-clause-cells
 settle-requires-clause-cells g c =

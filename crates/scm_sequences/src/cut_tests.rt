@@ -1,5 +1,5 @@
 //! What no clause says: that a cut may be called.
-use scm_sequences::{Lengths, Op, Sequences};
+use crate::{Lengths, Op, Sequences};
 use std::test::Fail;
 
 #[test]

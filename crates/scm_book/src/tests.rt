@@ -1,7 +1,7 @@
 //! The calls on their happy paths. The worked rows have every refusal.
 
-use crate::words::{ANNA, BERT, cell, is_done, load, name, store};
-use scm_book::{Book, Call, Event, Reply, run_events};
+use crate::test_words::{ANNA, BERT, cell, is_done, load, name, store};
+use crate::{Book, Call, Event, Reply, run_events};
 use scm_cells::Name;
 use scm_frontier::Situation;
 use scm_schedules::{is_legal, refutes};
@@ -116,20 +116,6 @@ fn messages_are_judged(rt: HostRuntime) -> Result<(), Fail> {
     Ok(())
 }
 
-/// Makes a copy of a call, which is done, and answers with the reply to the call itself.
-fn call_twice(rt: &impl Abort, book: &mut Book, call: Call) -> Result<Reply, Fail> {
-    assert!(rt; is_done(book.call(ANNA, call.copy()?)));
-    Ok(book.call(ANNA, call))
-}
-
-/// Asks about t by a copy of the call, and checks that the verdict can be copied, and that both are kept.
-fn ask_kept(rt: &impl Abort, book: &mut Book, ask: &Call) -> Result<(), Fail> {
-    let (verdict, kept) = book.call_kept(ANNA, ask.copy()?);
-    assert!(rt; matches!(verdict.copy()?, Reply::Consistent { .. }));
-    assert!(rt; matches!(kept, Some((Call::Ask { .. }, Reply::Consistent { .. }))));
-    Ok(())
-}
-
 #[test]
 fn calls_are_copied_and_made(rt: HostRuntime) -> Result<(), Fail> {
     let t = name(&rt, b"t");
@@ -140,29 +126,31 @@ fn calls_are_copied_and_made(rt: HostRuntime) -> Result<(), Fail> {
         budget: 1,
         cells: vec![in rt.alloc(); cell(&rt, b"x")]?,
     };
-    let again = call_twice(&rt, &mut book, open)?;
-    assert_refused(&rt, again, Refusal::NameTaken);
+    assert!(rt; is_done(book.call(ANNA, open.copy()?)));
+    assert_refused(&rt, book.call(ANNA, open), Refusal::NameTaken);
     let claim = Call::ClaimProcess {
         name: t,
         process: 0,
     };
-    let again = call_twice(&rt, &mut book, claim)?;
-    assert_refused(&rt, again, Refusal::ProcessTaken);
+    assert!(rt; is_done(book.call(ANNA, claim.copy()?)));
+    assert_refused(&rt, book.call(ANNA, claim), Refusal::ProcessTaken);
     let report = Call::Report {
         name: t,
         process: 0,
         access: load(&rt, b"x", 0),
     };
-    let again = call_twice(&rt, &mut book, report)?;
-    assert!(rt; is_done(again));
-    ask_kept(
-        &rt,
-        &mut book,
-        &Call::Ask {
+    assert!(rt; is_done(book.call(ANNA, report.copy()?)));
+    let (verdict, kept) = book.call_kept(
+        ANNA,
+        Call::Ask {
             name: t,
             mark: None,
-        },
-    )
+        }
+        .copy()?,
+    );
+    assert!(rt; matches!(verdict.copy()?, Reply::Consistent { .. }));
+    assert!(rt; matches!(kept, Some((Call::Ask { .. }, Reply::Consistent { .. }))));
+    Ok(())
 }
 
 // Under a budget of 1 the lost message is undecided.

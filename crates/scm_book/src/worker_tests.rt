@@ -1,7 +1,7 @@
 //! What workers take and deliver, between the calls of a session.
 
-use crate::words::{ANNA, cell, is_done, load, name, store};
-use scm_book::{Book, Call, Event, Reply, run_events};
+use crate::test_words::{ANNA, cell, is_done, load, name, store};
+use crate::{Book, Call, Event, Reply, run_events};
 use scm_expand::{Outcome, Task, expand};
 use scm_frontier::Steps;
 use scm_lowering::Access;

@@ -1,4 +1,4 @@
-use scm_schedules::{fixed, is_legal};
+use crate::{fixed, is_legal};
 use scm_sequences::{Lengths, MOST_CELLS, Op, Sequences};
 use std::alloc::Global;
 use std::process::Abort;

@@ -1,6 +1,6 @@
 //! The words of the tests: sessions, names, cells and accesses.
 
-use scm_book::{Decl, Reply};
+use crate::{Decl, Reply};
 use scm_cells::{Initial, Name, Num, Width};
 use scm_lowering::Access;
 use std::process::Abort;

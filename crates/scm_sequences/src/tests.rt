@@ -1,5 +1,5 @@
 //! What no clause says: that calls succeed, and the spellings of the refusals.
-use scm_sequences::{Lengths, MOST_OPERATIONS, Op, Refusal, Sequences};
+use crate::{Lengths, MOST_OPERATIONS, Op, Refusal, Sequences};
 use std::test::Fail;
 
 #[test]
