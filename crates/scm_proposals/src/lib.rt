@@ -23,6 +23,3 @@ mod writes;
 
 pub use ending::is_near_end;
 pub use proposal::propose;
-
-#[cfg(test)]
-mod tests;
