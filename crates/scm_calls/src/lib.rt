@@ -15,6 +15,8 @@ mod cells;
 #[cfg(test)]
 mod cutting;
 #[cfg(test)]
+mod cycles;
+#[cfg(test)]
 mod deliveries;
 #[cfg(test)]
 mod expand;
@@ -30,6 +32,8 @@ mod marks;
 mod names;
 #[cfg(test)]
 mod numbers;
+#[cfg(test)]
+mod orders;
 #[cfg(test)]
 mod pile;
 #[cfg(test)]

@@ -16,6 +16,3 @@ mod values;
 mod writes;
 
 pub use finding::find_cycle;
-
-#[cfg(test)]
-mod tests;

@@ -8,8 +8,6 @@ mod following;
 mod laws;
 mod refuting;
 mod sources;
-#[cfg(test)]
-mod tests;
 
 pub use edge::{Edge, Place, Reason};
 pub use laws::edges_hold;

@@ -1,4 +1,4 @@
-use crate::{Edge, Place, Reason, orders_refute};
+use scm_orders::{Edge, Place, Reason, orders_refute};
 use scm_sequences::{Lengths, Op, Sequences};
 use std::alloc::Global;
 use std::test::Fail;

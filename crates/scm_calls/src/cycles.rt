@@ -1,4 +1,4 @@
-use crate::find_cycle;
+use scm_cycles::find_cycle;
 use scm_orders::orders_refute;
 use scm_sequences::{Op, Sequences};
 use std::alloc::Global;
