@@ -245,6 +245,16 @@ fn storm_passes(rt: HostRuntime) -> Result<(), Fail> {
     assert_eq!(rt; entries.len() as u64, answered);
     assert!(rt; replays(alloc, entries)?);
     let results = audit.book.results();
-    assert!(rt; results.delivered() > 0);
+    let fates = [
+        results.accepted,
+        results.known,
+        results.stale,
+        results.full,
+        results.refused,
+    ];
+    let sum = fates
+        .iter()
+        .fold(0u64, |sum, fate| sum.saturating_add(*fate));
+    assert_eq!(rt; results.delivered(), sum);
     Ok(())
 }
