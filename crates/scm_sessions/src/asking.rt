@@ -65,6 +65,3 @@ pub(crate) fn read_asked(alloc: Global, line: Option<&[u8]>) -> Result<Asked, Un
     }
     read_words(alloc, line)
 }
-
-#[cfg(test)]
-mod tests;
