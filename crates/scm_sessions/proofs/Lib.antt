@@ -9,5 +9,6 @@ pub mod Naming
 pub mod Cutting
 pub mod Running
 pub mod Making
+pub mod Entries
 pub mod Sharing
 mod WithText

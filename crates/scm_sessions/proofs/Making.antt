@@ -1,8 +1,10 @@
 -- What the sessions of a run over a shared book made, call by call.
-use Rattle.std.proofs.Common.{◌≡◌, ◌≢◌, ◌⊎◌, ℕ, zero, suc, ◌+◌, ◌<◌, List, [], ◌∷◌, ◌++◌, length, refl, sym, ap, ◌∙◌, subst, inl, inr, arith, append_assoc, append-nil, length-append, Option, None, Some, slice_get, Bool, true, false, ◌&&◌, if◌then◌else◌, set, nat_eq}
+use Rattle.std.proofs.Common.{◌≡◌, ◌≢◌, ◌⊎◌, ℕ, zero, suc, ◌+◌, ◌<◌, List, [], ◌∷◌, ◌++◌, length, refl, sym, ap, ◌∙◌, subst, inl, inr, arith, append-nil, ◌≤◌, Some, slice_get, Bool, true, false, ◌&&◌, if◌then◌else◌, set, nat_eq}
 use Rattle.std.specs.Option.{option_map_or}
-use Rattle.std.specs.List.{position_or_len}
+use Rattle.std.proofs.lemmas.List.{length-set}
 use Rattle.std.specs.Cmp.Lexicographic.{same_text, other_text}
+use Rattle.scm_sequences.specs.declared.limits.TheConstants.{MOST_SESSIONS}
+use Rattle.scm_sequences.specs.declared.refusal.Refusal.{Refusal}
 use Rattle.scm_sequences.specs.declared.refusal.Refusal.TheVariants.{BadLine, NoSuchTrace, NameTaken, TooManyTraces, BadDeclaration, NoSuchProcess, ProcessTaken, NotClaimed, NotOwner, NoSuchCell, WidthMismatch, ValueOutOfRange, SequenceFull, NoSuchMark, TooManyMarks, BadBudget, JournalFull, NoMemory, TooManySessions}
 use Rattle.scm_cells.specs.Names.{name_eq}
 use Rattle.scm_book.specs.Calls.{CallData, ReplyData, done, marked, consistent, inconsistent, undecided, because, ops, listed, refused}
@@ -22,7 +24,7 @@ name_eq-refl-at : (b : Bool) (name : List ℕ) → name_eq name name ≡ b → n
 name_eq-refl-at true name is = is
 name_eq-refl-at false name is = absurd (other_text name name (sym is) refl)
 
-name_eq-refl : (name : List ℕ) → name_eq name name ≡ true
+pub name_eq-refl : (name : List ℕ) → name_eq name name ≡ true
 name_eq-refl name = name_eq-refl-at (name_eq name name) name refl
 
 -- ---- the calls that a pass made
@@ -228,3 +230,48 @@ numbered-set from (p ∷ passes) (suc place) pass within same numbered =
 
     at : (q : Known) × (slice_get passes place ≡ Some q) → number_at from passes place ≡ number_at (from + 1) passes place
     at some = rw some.1 refl
+
+-- ---- a call of the session at a place
+
+module _ (names : List (List ℕ)) (passes later : List Known) (place : ℕ) (name : List ℕ) (pass : Known) (call : CallData) (reply : ReplyData)
+    (count : length passes ≡ length names) (is_place : place ≡ session_of names name) (within : place < length passes)
+    (old : Known) (is_old : slice_get passes place ≡ Some old) (is_later : later ≡ set passes place pass) (is_called : Called old call reply pass) where
+  made_there : pass.made ≡ made_at passes place ++ called call reply
+  made_there = is_called.made ∙ ap (λ o. option_map_or (λ (p : Known). p.made) o [] ++ called call reply) (sym is_old)
+
+  number_there : pass.number ≡ number_at 0 passes place
+  number_there = is_called.number ∙ ap (λ o. option_map_or (λ (p : Known). p.number) o 0) (sym is_old)
+
+  pub called_invariant : length names ≤ MOST_SESSIONS → AreNumberedFrom 0 passes
+      → (length names ≤ MOST_SESSIONS) × (length later ≡ length names) × AreNumberedFrom 0 later
+  called_invariant most numbered =
+      (most, ap length is_later ∙ length-set passes place pass ∙ count, subst (AreNumberedFrom 0) (sym is_later) (numbered-set 0 passes place pass within number_there numbered))
+
+  pub called_makes : reply ≢ refused BadLine → MakesCall (callers names passes) name call reply (callers names later)
+  called_makes good = record {
+    reply_is = good;
+    made = λ other. ap (λ (ps : List Known). made_by (callers names ps) other) is_later
+        ∙ made-set names passes place name other pass call reply count is_place within made_there;
+  }
+
+-- a call that is refused before the book saw it
+nothing_made : (b : Bool) (call : CallData) (reply : ReplyData) → became_entry reply ≡ false → [] ≡ entry_if b call reply
+nothing_made true call reply none = rw none refl
+nothing_made false call reply none = refl
+
+refused_by : (old new : Callers) (name : List ℕ) (call : CallData) (refusal : Refusal) → became_entry (refused refusal) ≡ false
+    → refused refusal ≢ refused BadLine → ((other : List ℕ) → made_by new other ≡ made_by old other) → MakesCall old name call (refused refusal) new
+refused_by old new name call refusal none good made = record {
+  reply_is = good;
+  made = λ other. made other ∙ sym (append-nil (made_by old other))
+      ∙ ap (λ e. made_by old other ++ e) (nothing_made (name_eq other name) call (refused refusal) none);
+}
+
+pub refused_makes : (old new : Callers) (name : List ℕ) (call : CallData) (refusal : Refusal) → (refusal ≡ TooManySessions) ⊎ (refusal ≡ NoMemory)
+    → ((other : List ℕ) → made_by new other ≡ made_by old other) → MakesCall old name call (refused refusal) new
+refused_makes old new name call refusal (inl is) made =
+    let P : Refusal → Type 0 = λ r. MakesCall old name call (refused r) new in
+    subst P (sym is) (refused_by old new name call TooManySessions refl (λ same. absurd (cc)) made)
+refused_makes old new name call refusal (inr is) made =
+    let P : Refusal → Type 0 = λ r. MakesCall old name call (refused r) new in
+    subst P (sym is) (refused_by old new name call NoMemory refl (λ same. absurd (cc)) made)

@@ -1,5 +1,5 @@
 -- The sessions of a run over a shared book: what the run's passes say that they made. This project's profile.
-use Rattle.std.specs.Prelude.{ℕ, ◌≡◌, ◌≢◌, ◌+◌, List, [], ◌∷◌, ◌++◌, slice_get}
+use Rattle.std.specs.Prelude.{ℕ, ◌≡◌, ◌≢◌, ◌+◌, ⊤, List, [], ◌∷◌, ◌++◌, slice_get}
 use Rattle.std.specs.Option.{option_map_or}
 use Rattle.scm_sequences.specs.declared.refusal.Refusal.TheVariants.{BadLine}
 use Rattle.scm_book.specs.Calls.{CallData, ReplyData, refused}

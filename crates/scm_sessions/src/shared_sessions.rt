@@ -104,21 +104,24 @@ impl<'a, B: BookNaming, T: Wait> SharedSessions<'a, B, T> {
             return Err(Refusal::TooManySessions);
         }
         let place = enter_name(&mut self.names, name)?;
-        if place == self.passes.len()
-            && let Err(refusal) = enter_next(self.rt, self.book, &mut self.passes)
-        {
-            self.names.truncate(place);
-            return Err(refusal);
+        if place < self.passes.len() {
+            return Ok(place);
         }
-        Ok(place)
+        match enter_next(self.rt, self.book, &mut self.passes) {
+            Ok(()) => Ok(place),
+            Err(refusal) => {
+                self.names.truncate(place);
+                Err(refusal)
+            }
+        }
     }
 
     /// The names in the order of their entry, which go into `room`, and their passes.
     pub(crate) fn into_parts(self, mut room: Vec<Name>) -> (Vec<Name>, Vec<Pass<B>>)
         requires empty { room.items ≡ [] }
         requires fits { MOST_SESSIONS ≤ vec_capacity room }
-        ensures names { result.0.items ≡ self.names }
-        ensures passes { result.1.items ≡ self.passes }
+        ensures names { result.0.items ≡ self.entry.names }
+        ensures passes { result.1.items ≡ self.entry.passes }
         ensures each { length result.1.items ≡ length result.0.items }
         ensures numbered { AreNumberedFrom 0 result.1.items }
     {
