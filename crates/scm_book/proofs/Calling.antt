@@ -16,7 +16,7 @@ use Rattle.scm_book.specs.Sets.{KeptTrace, machine_in, sets_in, LeavesSets}
 use Rattle.scm_book.specs.Runs.{Answered, IsRun}
 use Rattle.scm_book.specs.Journal.{BookState, IsUnchanged, IsLegalHistory, AreOfEntry, IsCall, is_full, makes_entry, entered, answered}
 use Rattle.scm_book.proofs.Counting.{AreNumbered-entered}
-use Rattle.scm_book.proofs.Changing.{step-enters}
+use Rattle.scm_book.specs.ReplyLaws.{IsStep-enters}
 use Rattle.scm_book.proofs.Leaving.{leaves_idle}
 
 -- ---- histories
@@ -87,7 +87,7 @@ module _ (old new : BookState) (session : ℕ) (call : CallData) (made : ℕ) (c
   module _ (reply : ReplyData) (room : is_full old.journal ≡ false) (counts : new.results ≡ old.results) (left : LeavesSets old.machine old.sets call reply 0 made new.sets) where
     -- the machine's reply makes no entry
     pub call-no_entry : IsStepOrNoMemory old.machine session call reply new.machine → makes_entry reply ≡ false → new.journal ≡ old.journal → IsCall old session call reply new
-    call-no_entry (inl step) none same = let no : true ≡ false = sym (step-enters old.machine new.machine session call reply step) ∙ none in cc
+    call-no_entry (inl step) none same = let no : true ≡ false = sym (IsStep-enters old.machine new.machine session call reply step) ∙ none in cc
     call-no_entry (inr memory) none same =
         subst (λ r. IsCall old session call r new) (sym memory.0)
         (call-no_memory room (record { journal = same; machine = memory.1 }) counts (subst (λ r. LeavesSets old.machine old.sets call r 0 made new.sets) memory.0 left))
@@ -126,7 +126,7 @@ module _ (traces : List (List ℕ × KeptTrace)) (entries : List EntryData) (res
 
 -- the machine's reply makes no entry: memory was refused, and the machine is as it was
 pub machine-no_entry : (old new : Machine) (session : ℕ) (call : CallData) (reply : ReplyData) → IsStepOrNoMemory old session call reply new → makes_entry reply ≡ false → new ≡ old
-machine-no_entry old new session call reply (inl step) none = let no : true ≡ false = sym (step-enters old new session call reply step) ∙ none in cc
+machine-no_entry old new session call reply (inl step) none = let no : true ≡ false = sym (IsStep-enters old new session call reply step) ∙ none in cc
 machine-no_entry old new session call reply (inr memory) none = memory.1
 
 -- copies that were made beside an entry are equal to it

@@ -5,7 +5,6 @@ pub mod Answering
 pub mod Questions
 pub mod Sounding
 mod Counting
-mod Entering
 mod Changing
 mod Calling
 mod Answered

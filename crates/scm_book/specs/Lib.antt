@@ -9,6 +9,7 @@ pub mod Steps
 pub mod Changes
 pub mod Runs
 pub mod Journal
+pub mod ReplyLaws
 pub mod Callers
 pub mod CallerLaws
 pub mod JournalState

@@ -1,6 +1,7 @@
 //! The book of open traces.
-ghost use Rattle.std.specs.Prelude.{◌≡◌, ◌↔◌, ◌+◌, ◌-◌, [], false, map, None, Some, true, is_ok, IsTrue, IfOk, IfSome, IsSomeAnd, MatchResult};
-ghost use Rattle.scm_book.specs.Calls.{call_data, reply_data, entry_data, opens, claims, releases, reports, sets_mark, goes_back, raises, asks, asks_why, shows, lists, closes};
+ghost use Rattle.std.specs.Prelude.{◌≡◌, ◌≢◌, ◌↔◌, ◌+◌, ◌-◌, [], false, map, None, Some, true, is_ok, IsTrue, IfOk, IfSome, IsSomeAnd, MatchResult};
+ghost use Rattle.scm_book.specs.Calls.{call_data, reply_data, entry_data, opens, claims, releases, reports, sets_mark, goes_back, raises, asks, asks_why, shows, lists, closes, refused};
+ghost use Rattle.scm_sequences.specs.declared.refusal.Refusal.TheVariants.{BadLine, TooManySessions};
 ghost use Rattle.scm_book.specs.Machine.{empty_machine};
 ghost use Rattle.scm_book.specs.Sets.{HasRoom, HasRoomFor, HoldsFor, LeavesSets, SearchesSet};
 ghost use Rattle.scm_results.specs.Totals.{capped, none_counted};
@@ -136,11 +137,13 @@ impl Book {
         self.traces.has_room(name, steps)
     }
 
-    /// Makes a call of a session. The machine is as it was after every reply but `Done` and `MarkSet`. The steps of a
-    /// question are counted in the book's total.
+    /// Makes a call of a session. The machine is as it was after every reply but `Done` and `MarkSet`. No call is refused
+    /// `BadLine` or `TooManySessions`. The steps of a question are counted in the book's total.
     pub fn call(&mut self, session: u16, call: Call) -> Reply
         ensures called { IsCall self.old session (call_data call) (reply_data result) self.new }
         ensures kept { tells_of_change (reply_data result) ≡ false → self.new.machine ≡ self.old.machine }
+        ensures good { reply_data result ≢ refused BadLine }
+        ensures sessions { reply_data result ≢ refused TooManySessions }
         ensures legal { IsLegalBook self.new }
     {
         let mut steps = self.traces.new_counter(&call);
@@ -154,6 +157,8 @@ impl Book {
         ensures called { IsCall self.old session (call_data call) (reply_data result.0) self.new }
         ensures kept { GivesCopies (call_data call) result.0 result.1 }
         ensures machine { tells_of_change (reply_data result.0) ≡ false → self.new.machine ≡ self.old.machine }
+        ensures good { reply_data result.0 ≢ refused BadLine }
+        ensures sessions { reply_data result.0 ≢ refused TooManySessions }
         ensures legal { IsLegalBook self.new }
     {
         if self.journal.is_full() {

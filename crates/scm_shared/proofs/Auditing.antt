@@ -1,5 +1,5 @@
 -- What an audit finds: whose passes were handed in.
-use Rattle.std.proofs.Common.{◌≡◌, ℕ, zero, suc, ◌<◌, List, [], ◌∷◌, ◌++◌, map, get_or, Bool, true, arith, sym, ap, ◌∙◌, ◌==◌}
+use Rattle.std.proofs.Common.{◌≡◌, ℕ, zero, suc, ◌<◌, List, [], ◌∷◌, ◌++◌, map, get_or, Bool, true, false, arith, sym, subst, ◌∙◌, ◌==◌}
 use Rattle.std.specs.Prelude.{All, IsTrue, ◌↔◌}
 use Rattle.std.specs.List.{list_all, list_any}
 use Rattle.std.proofs.lemmas.List.Folds.{list_all-map}
@@ -23,14 +23,25 @@ one_more P passes pass all mine = All-append P passes (pass ∷ []) all one
     one zero d within = mine
     one (suc k) d within = absurd (omega arith)
 
-pub covered : (passes : List Known) (entries : List Entry) (journal : List EntryData) (agreed : Bool) → map entry_data entries ≡ journal
-    → agreed ≡ list_all (λ (entry : Entry). list_any (λ (pass : Known). pass.number == entry.session) passes) entries → agreed ≡ covers passes journal
-covered passes entries journal agreed are is =
-    is ∙ sym (list_all-map (λ (entry : EntryData). list_any (λ (pass : Known). pass.number == entry.session) passes) entry_data entries) ∙ ap (covers passes) are
+-- an audit's yes, where the entries are the journal
+pub agrees : (passes : List Known) (entries : List EntryData) (journal : List EntryData) (agreed : Bool) → entries ≡ journal
+    → IsTrue agreed ↔ Agree passes entries → IsTrue agreed ↔ Agree passes journal
+agrees passes entries journal agreed are exact = subst (λ (l : List EntryData). IsTrue agreed ↔ Agree passes l) are exact
 
-pub agrees : (passes : List Known) (journal : List EntryData) (agreed : Bool) → agreed ≡ covers passes journal → All (λ pass. Fits journal pass) passes
-    → IsTrue agreed ↔ Agree passes journal
-agrees passes journal agreed is fit = ((λ yes. (sym is ∙ yes, all_follow journal passes fit)), (λ all. is ∙ all.0))
+pub is_given : (passes : List Known) (journal : List EntryData) (agreed : Bool) → IsTrue agreed ↔ Agree passes journal → All (λ pass. Fits journal pass) passes
+    → covers passes journal ≡ true → IsTrue agreed
+is_given passes journal agreed exact fit all = exact.1 (all, all_follow journal passes fit)
 
-pub is_given : (passes : List Known) (journal : List EntryData) (agreed : Bool) → agreed ≡ covers passes journal → covers passes journal ≡ true → IsTrue agreed
-is_given passes journal agreed is all = is ∙ all
+-- whether each session has its pass, where that was looked at entry by entry
+covered : (passes : List Known) (entries : List Entry) (found : Bool) → found ≡ list_all (λ (entry : Entry). list_any (λ (pass : Known). pass.number == entry.session) passes) entries
+    → found ≡ covers passes (map entry_data entries)
+covered passes entries found is = is ∙ sym (list_all-map (λ (entry : EntryData). list_any (λ (pass : Known). pass.number == entry.session) passes) entry_data entries)
+
+module _ (passes : List Known) (entries : List Entry) where
+  pub agree-covered : (follow : Bool) → true ≡ list_all (λ (entry : Entry). list_any (λ (pass : Known). pass.number == entry.session) passes) entries
+      → IsTrue follow ↔ AllFollow passes (map entry_data entries) → IsTrue follow ↔ Agree passes (map entry_data entries)
+  agree-covered follow all exact = ((λ yes. (sym (covered passes entries true all), exact.0 yes)), (λ agreed. exact.1 agreed.1))
+
+  pub agree-uncovered : (found : Bool) → found ≡ list_all (λ (entry : Entry). list_any (λ (pass : Known). pass.number == entry.session) passes) entries → found ≡ false
+      → IsTrue found ↔ Agree passes (map entry_data entries)
+  agree-uncovered found is none = ((λ yes. let e : true ≡ false = sym yes ∙ none in cc), (λ agreed. covered passes entries found is ∙ agreed.0))

@@ -6,3 +6,4 @@ pub mod Passing
 pub mod Auditing
 pub mod Taking
 pub mod Moves
+mod Following

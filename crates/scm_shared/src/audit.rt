@@ -1,12 +1,14 @@
 //! The end of a shared book: what its passes kept, against its journal.
-ghost use Rattle.std.specs.Prelude.{◌≡◌, ◌+◌, ◌<◌, ◌==◌, ◌↔◌, true, All, IsTrue, length, sum_by, vec_len};
+ghost use Rattle.std.specs.Prelude.{◌≡◌, ◌+◌, ◌<◌, ◌==◌, ◌↔◌, true, All, IsTrue, length, map, sum_by, vec_len};
 ghost use Rattle.std.specs.List.{list_all, list_any};
 ghost use Rattle.scm_results.specs.Tallies.{AddUpTo};
+ghost use Rattle.scm_book.specs.Calls.{entry_data};
 ghost use Rattle.scm_book.specs.Journal.{IsLegalBook};
 ghost use Rattle.scm_shared.specs.Rule.{Fits};
 ghost use Rattle.scm_shared.specs.Seats.{IsBooks};
-ghost use Rattle.scm_shared.specs.Audits.{covers, Agree};
+ghost use Rattle.scm_shared.specs.Audits.{covers, AllFollow, Agree};
 
+use crate::comparing::follows;
 use crate::desk::Desk;
 use crate::hall::Hall;
 use crate::word::View;
@@ -45,6 +47,25 @@ fn is_covered<B: BookNaming>(passes: &Vec<Pass<B>>, entries: &[Entry]) -> bool
     entries.iter().all(|entry| is_given(passes, entry.session))
 }
 
+/// Whether the calls that each of these passes kept are its session's entries, in order.
+fn all_follow<B: BookNaming>(passes: &Vec<Pass<B>>, entries: &[Entry]) -> bool
+    ensures { IsTrue result ↔ AllFollow passes.now.items (map entry_data entries.now) }
+{
+    for pass in passes {
+        if !follows(pass.number(), pass.kept(), entries) {
+            return false;
+        }
+    }
+    true
+}
+
+/// Whether the passes agree with the journal.
+fn agree<B: BookNaming>(passes: &Vec<Pass<B>>, entries: &[Entry]) -> bool
+    ensures { IsTrue result ↔ Agree passes.now.items (map entry_data entries.now) }
+{
+    is_covered(passes, entries) && all_follow(passes, entries)
+}
+
 /// Takes a pass apart, which fits the journal.
 fn take_in<B: BookNaming>(
     hall: &Hall<B>,
@@ -69,8 +90,8 @@ fn take_in<B: BookNaming>(
 }
 
 impl<B: BookNaming> Desk<B> {
-    /// Takes the desk apart, and compares the passes with the journal and the tallies with the totals. The calls of every pass
-    /// are its session's entries anyhow, as the rule of the counting word has it, so what is left to see is whose passes came.
+    /// Takes the desk apart, and compares the passes with the journal and the tallies with the totals. That the calls of every
+    /// pass are its session's entries is proved, by the rule of the counting word, and looked at all the same.
     pub(crate) fn audit(self, hall: &Hall<B>, passes: Vec<Pass<B>>, tallies: Vec<Tally<B>>) -> Audit
         ensures book { result.book ≡ self.book }
         ensures entered { result.entered ≡ self.entered }
@@ -92,7 +113,7 @@ impl<B: BookNaming> Desk<B> {
             mut made,
             rest: mut all,
         } = self;
-        let agreed = is_covered(&passes, book.entries());
+        let agreed = agree(&passes, book.entries());
         for pass in passes {
             take_in(hall, &mut seat, &mut all, pass);
         }

@@ -1,6 +1,6 @@
 //! What lies under the lock of a shared book.
-ghost use Rattle.std.specs.Prelude.{◌≡◌, ◌+◌, ◌<◌, ◌≤◌, [], true, IfErr, IfOk, IfSome, None, Some, MatchResult, vec_len};
-ghost use Rattle.scm_sequences.specs.declared.refusal.Refusal.TheVariants.{JournalFull, NoMemory as WithoutMemory, TooManySessions};
+ghost use Rattle.std.specs.Prelude.{◌≡◌, ◌≢◌, ◌+◌, ◌<◌, ◌≤◌, [], true, IfErr, IfOk, IfSome, None, Some, MatchResult, vec_len};
+ghost use Rattle.scm_sequences.specs.declared.refusal.Refusal.TheVariants.{BadLine, JournalFull, NoMemory as WithoutMemory, TooManySessions};
 ghost use Rattle.scm_sequences.specs.declared.limits.TheConstants.{MOST_SESSIONS};
 ghost use Rattle.scm_results.specs.Tallies.{nothing_counted};
 ghost use Rattle.scm_book.specs.Calls.{call_data, reply_data, refused};
@@ -35,7 +35,7 @@ pub(crate) struct Desk<B: BookNaming> {
 }
 
 impl<B: BookNaming> Model for Desk<B> {
-    ghost use Rattle.std.specs.Prelude.{◌≡◌, ◌+◌, ◌≤◌, length};
+    ghost use Rattle.std.specs.Prelude.{◌≡◌, ◌≢◌, ◌+◌, ◌≤◌, length};
     ghost use Rattle.scm_sequences.specs.declared.limits.TheConstants.{MOST_SESSIONS};
     ghost use Rattle.scm_shared.specs.Desks.{Desked};
     ghost use Rattle.scm_shared.specs.Seats.{IsKeeper};
@@ -100,6 +100,8 @@ impl<B: BookNaming> Desk<B> {
         ensures made { makes_entry (reply_data result) ≡ true → Extended pass.old (call_data call) (reply_data result) pass.new }
         ensures full { reply_data result ≡ refused JournalFull → SeenFull pass.old pass.new }
         ensures refused { reply_data result ≡ refused WithoutMemory → pass.new ≡ pass.old }
+        ensures good { reply_data result ≢ refused BadLine }
+        ensures sessions { reply_data result ≢ refused TooManySessions }
     {
         if pass.kept.reserve(1).is_err() {
             return Reply::Refused(Refusal::NoMemory);

@@ -2,11 +2,16 @@
 #![tactic(auto)]
 
 mod audit;
+mod comparing;
 mod desk;
 mod hall;
 mod naming;
 mod pass;
 mod shared_book;
+#[cfg(test)]
+mod storm_tests;
+#[cfg(test)]
+mod test_words;
 #[cfg(test)]
 mod tests;
 mod token;

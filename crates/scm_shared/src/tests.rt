@@ -3,7 +3,7 @@ ghost use Rattle.std.specs.Prelude.{◌≡◌};
 
 use crate::{Audit, BookNaming, BookToken, Pass, SharedBook};
 use scm_book::{Call, Reply};
-use scm_sequences::{MOST_SESSIONS, Refusal};
+use scm_sequences::{MOST_ENTRIES, MOST_SESSIONS, Refusal};
 use std::alloc::Global;
 use std::marker::Brand;
 use std::sync::Wait;
@@ -143,6 +143,47 @@ fn an_audit_of_no_passes(rt: HostRuntime) -> Result<(), Fail> {
     assert_eq!(rt; audit.entered, 2);
     assert_eq!(rt; audit.book.entries().len(), 3);
     assert!(rt; !audit.agreed);
+    Ok(())
+}
+
+/// A list that is refused, since the journal is full.
+fn refused_list<B: BookNaming>(rt: &impl Wait, shared: &SharedBook<B>, pass: &mut Pass<B>) -> bool {
+    matches!(
+        shared.call(rt, pass, Call::ListTraces),
+        Reply::Refused(Refusal::JournalFull)
+    )
+}
+
+/// Two passes after one of them filled the journal, and both were refused one more call; and how many entries there are.
+fn fill<B: BookNaming>(
+    rt: &impl Wait,
+    alloc: Global,
+    token: BookToken,
+) -> Result<([u64; 4], usize), Fail>
+    requires table { token.table.shared.table_id ≡ B.table }
+    requires made { (token.made.name ≡ B.made) × (token.made.parts ≡ B.seats) }
+    requires totals { (token.totals.taken.name ≡ B.taken) × (token.totals.delivered.name ≡ B.delivered) × (token.totals.taken.parts ≡ B.parts) }
+{
+    let shared = SharedBook::<B>::new(alloc, token);
+    let mut one = entered(rt, &shared)?;
+    let mut other = entered(rt, &shared)?;
+    for _ in 0..MOST_ENTRIES {
+        list(rt, &shared, &mut one)?;
+    }
+    if !refused_list(rt, &shared, &mut one) || !refused_list(rt, &shared, &mut other) {
+        return Err(Fail::from("a full journal"));
+    }
+    let found = [one.made(), one.seen(), other.made(), other.seen()];
+    let audit = shared.audit(Vec::new(alloc), Vec::new(alloc));
+    Ok((found, audit.book.entries().len()))
+}
+
+#[test]
+fn full_journal(rt: HostRuntime) -> Result<(), Fail> {
+    let (found, entries) = fill::<Brand>(&rt, rt.alloc(), BookToken::new(rt.alloc())?)?;
+    let most = MOST_ENTRIES as u64;
+    assert!(rt; found == [most, most, 0, most]);
+    assert_eq!(rt; entries, MOST_ENTRIES);
     Ok(())
 }
 

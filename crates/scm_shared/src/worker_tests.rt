@@ -1,11 +1,10 @@
 //! That workers work a shared book off, and that nobody waits for one who is at work.
 ghost use Rattle.std.specs.Prelude.{◌≡◌};
 
+use crate::test_words::{ask, cells, claim, name, report};
 use crate::{BookNaming, BookToken, Pass, SharedBook};
-use scm_book::{Call, Decl, Reply};
-use scm_cells::{Initial, Name, Num, Width};
-use scm_expand::{FreeGate, Gate, TaskSource, run_workers};
-use scm_lowering::Access;
+use scm_book::{Call, Reply};
+use scm_expand::{FreeGate, Gate, TaskSource, expand, run_workers};
 use scm_results::Tally;
 use std::alloc::Global;
 use std::marker::Brand;
@@ -18,35 +17,6 @@ use std::thread::Threads;
 
 const MOST_TURNS: u64 = 1_000_000_000;
 
-fn name(rt: &impl Abort, word: &[u8]) -> Name {
-    Name::read(word).expect(rt, "a name")
-}
-
-/// A cell of 32 bits that holds 0 at first.
-fn cell(rt: &impl Abort, word: &[u8]) -> Decl {
-    Decl {
-        name: name(rt, word),
-        width: Width::W,
-        initial: Initial::Given(Num::Plain(0)),
-    }
-}
-
-fn load(rt: &impl Abort, word: &[u8], value: u64) -> Access {
-    Access::Load {
-        width: Width::W,
-        cell: name(rt, word),
-        value: Num::Plain(value),
-    }
-}
-
-fn store(rt: &impl Abort, word: &[u8], value: u64) -> Access {
-    Access::Store {
-        width: Width::W,
-        cell: name(rt, word),
-        value: Num::Plain(value),
-    }
-}
-
 /// A call that is answered `Done`.
 fn done<B: BookNaming, R: Wait + Abort>(
     rt: &R,
@@ -55,22 +25,6 @@ fn done<B: BookNaming, R: Wait + Abort>(
     call: Call,
 ) {
     assert!(rt; matches!(shared.call(rt, pass, call), Reply::Done));
-}
-
-/// The report of an access of a process of t.
-fn report(rt: &impl Abort, process: u64, access: Access) -> Call {
-    Call::Report {
-        name: name(rt, b"t"),
-        process,
-        access,
-    }
-}
-
-fn asks(rt: &impl Abort) -> Call {
-    Call::Ask {
-        name: name(rt, b"t"),
-        mark: None,
-    }
 }
 
 /// Opens t with the cells x and y, and claims its two processes.
@@ -84,15 +38,11 @@ fn open_two<B: BookNaming, R: Wait + Abort>(
         name: name(rt, b"t"),
         procs: 2,
         budget: 100,
-        cells: vec![in alloc; cell(rt, b"x"), cell(rt, b"y")]?,
+        cells: cells(rt, alloc)?,
     };
     done(rt, shared, pass, open);
     for process in 0..2 {
-        let claim = Call::ClaimProcess {
-            name: name(rt, b"t"),
-            process,
-        };
-        done(rt, shared, pass, claim);
+        done(rt, shared, pass, claim(rt, process));
     }
     Ok(())
 }
@@ -103,10 +53,10 @@ fn buffer_stores<B: BookNaming, R: Wait + Abort>(
     shared: &SharedBook<B>,
     pass: &mut Pass<B>,
 ) {
-    done(rt, shared, pass, report(rt, 0, store(rt, b"x", 1)));
-    done(rt, shared, pass, report(rt, 0, load(rt, b"y", 0)));
-    done(rt, shared, pass, report(rt, 1, store(rt, b"y", 1)));
-    done(rt, shared, pass, report(rt, 1, load(rt, b"x", 0)));
+    done(rt, shared, pass, report(rt, 0, &[b"sw", b"x", b"1"]));
+    done(rt, shared, pass, report(rt, 0, &[b"lw", b"y", b"0"]));
+    done(rt, shared, pass, report(rt, 1, &[b"sw", b"y", b"1"]));
+    done(rt, shared, pass, report(rt, 1, &[b"lw", b"x", b"0"]));
 }
 
 /// Takes one task a turn, and drops it, until there is none.
@@ -152,7 +102,7 @@ fn work_off<B: BookNaming + Send + Sync, R: Threads + Wait + Abort + Sync>(
     assert_eq!(rt; audit.tallies, 4);
     let mut book = audit.book;
     assert_eq!(rt; book.results().accepted, 7);
-    assert!(rt; matches!(book.call(0, asks(rt)), Reply::Inconsistent));
+    assert!(rt; matches!(book.call(0, ask(rt, None)), Reply::Inconsistent));
     assert_eq!(rt; book.steps(), 0);
     Ok(())
 }
@@ -195,8 +145,8 @@ fn answers<B: BookNaming, R: Wait + Abort>(
     barrier: &Barrier,
 ) -> bool {
     let came = is_set(&barrier.came);
-    let reported = shared.call(rt, pass, report(rt, 0, store(rt, b"x", 2)));
-    let answered = shared.call(rt, pass, asks(rt));
+    let reported = shared.call(rt, pass, report(rt, 0, &[b"sw", b"x", b"2"]));
+    let answered = shared.call(rt, pass, ask(rt, None));
     came && matches!(reported, Reply::Done) && matches!(answered, Reply::Inconsistent)
 }
 
@@ -237,4 +187,47 @@ fn call_meanwhile<B: BookNaming + Send + Sync, R: Threads + Wait + Abort + Sync>
 #[test]
 fn report_during_expand(rt: HostRuntime) -> Result<(), Fail> {
     call_meanwhile::<Brand, _>(&rt, rt.alloc(), BookToken::new(rt.alloc())?)
+}
+
+/// How many changes there were before and after a delivery, and after one of the same outcomes again.
+fn deliver_twice<B: BookNaming, R: Wait + Abort>(
+    rt: &R,
+    alloc: Global,
+    token: BookToken,
+) -> Result<[u64; 3], Fail>
+    requires table { token.table.shared.table_id ≡ B.table }
+    requires made { (token.made.name ≡ B.made) × (token.made.parts ≡ B.seats) }
+    requires totals { (token.totals.taken.name ≡ B.taken) × (token.totals.delivered.name ≡ B.delivered) × (token.totals.taken.parts ≡ B.parts) }
+{
+    let shared = SharedBook::<B>::new(alloc, token);
+    let mut pass = shared.enter(rt).ok().ok_or("a pass")?;
+    open_two(rt, alloc, &shared, &mut pass)?;
+    buffer_stores(rt, &shared, &mut pass);
+    let mut tally = shared.tally(rt).ok_or("a tally")?;
+    let mut outcomes = Vec::new(alloc);
+    let mut again = Vec::new(alloc);
+    for task in shared.take(rt, 2, &mut tally)? {
+        let outcome = expand(task).map_err(|(_, no_memory)| Fail::from(no_memory))?;
+        again.push(outcome.copy()?)?;
+        outcomes.push(outcome)?;
+    }
+    assert_eq!(rt; outcomes.len(), 2);
+    let before = shared.wait(rt, 0);
+    shared.deliver(rt, outcomes, &mut tally);
+    let first = shared.wait(rt, 0);
+    shared.deliver(rt, again, &mut tally);
+    assert_eq!(rt; tally.delivered(), 4);
+    Ok([before, first, shared.wait(rt, 0)])
+}
+
+#[test]
+fn a_repeated_delivery_wakes_nobody(rt: HostRuntime) -> Result<(), Fail> {
+    let [before, first, second] = deliver_twice::<Brand, _>(
+        &rt,
+        rt.alloc(),
+        BookToken::new(rt.alloc())?,
+    )?;
+    assert!(rt; before < first);
+    assert_eq!(rt; first, second);
+    Ok(())
 }

@@ -1,12 +1,12 @@
 use Rattle.std.proofs.Common.{◌≡◌, ◌+◌, ◌<◌, ℕ, List, [], ◌∷◌, ◌++◌, length, map, map-id, length-append, sym, ap, ◌∙◌, subst, rules, arith}
 use Rattle.std.proofs.lemmas.List.Sums.{sum_by_push}
-use Rattle.scm_book.specs.Calls.{EntryData}
+use Rattle.scm_book.specs.Calls.{EntryData, entry_data}
 use Rattle.std.specs.Prelude.{All}
 use Rattle.std.proofs.lemmas.Iterator.Consumers.{YieldsList-end}
 use Rattle.std.proofs.lemmas.Iterator.Adapters.{YieldsList-from_vec}
 use Rattle.scm_shared.specs.Passes.{Known}
 use Rattle.scm_shared.specs.Rule.{Fits}
-use Rattle.scm_shared.proofs.Auditing.{covered, agrees, is_given, one_more}
+use Rattle.scm_shared.proofs.Auditing.{agrees, is_given, one_more}
 use Rattle.scm_shared.proofs.desk.Desk.audit.Goals as goal
 
 pub loop-pass-preserved : goal.loop-pass-preserved
@@ -40,12 +40,7 @@ returns-clause-numbers g c =
     all
 
 pub returns-clause-agreed : goal.returns-clause-agreed
-returns-clause-agreed g c =
-    agrees c.args.passes.items c.self.inside.book.journal c.is_covered-agreed.result
-    (covered c.args.passes.items c.entries.result.now c.self.inside.book.journal c.is_covered-agreed.result c.entries.ensures.entries c.is_covered-agreed.ensures)
-    (returns-clause-fits g c)
+returns-clause-agreed g c = agrees c.args.passes.items (map entry_data c.entries.result.now) c.self.inside.book.journal c.agree-agreed.result c.entries.ensures.entries c.agree-agreed.ensures
 
 pub returns-clause-given : goal.returns-clause-given
-returns-clause-given g c =
-    is_given c.args.passes.items c.self.inside.book.journal c.is_covered-agreed.result
-    (covered c.args.passes.items c.entries.result.now c.self.inside.book.journal c.is_covered-agreed.result c.entries.ensures.entries c.is_covered-agreed.ensures)
+returns-clause-given g c = is_given c.args.passes.items c.self.inside.book.journal c.agree-agreed.result (returns-clause-agreed g c) (returns-clause-fits g c)

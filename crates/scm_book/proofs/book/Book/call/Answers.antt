@@ -1,0 +1,9 @@
+use Rattle.scm_book.specs.Calls.{call_data, reply_data}
+use Rattle.scm_book.specs.ReplyLaws.{IsCall-good, IsCall-sessions}
+use Rattle.scm_book.proofs.book.Book.call.Goals as goal
+
+pub returns-clause-good : goal.returns-clause-good
+returns-clause-good c = IsCall-good c.args.self.now c.make-reply.new.self c.args.session (call_data c.args.call) (reply_data c.make-reply.result.0) c.make-reply.ensures.called
+
+pub returns-clause-sessions : goal.returns-clause-sessions
+returns-clause-sessions c = IsCall-sessions c.args.self.now c.make-reply.new.self c.args.session (call_data c.args.call) (reply_data c.make-reply.result.0) c.make-reply.ensures.called
