@@ -10,14 +10,14 @@ use Rattle.scm_sessions.specs.Script.{session_of, is_entered, with_name, is_turn
 use Rattle.scm_sessions.specs.Callers.{callers, AreNumberedFrom, made_by}
 use Rattle.scm_sessions.proofs.Entering.{with_name_within}
 use Rattle.scm_sessions.proofs.Naming.{found_within, place_within}
-use Rattle.scm_sessions.proofs.Making.{made-push, numbered-push, name_eq-refl}
+use Rattle.scm_sessions.proofs.Making.{made-push, numbered-push, name_eq-refl, first_session, next_session}
 
 -- an element that is not there has the next place
 not_found : {X : Type 0} (test : X → Bool) (xs : List X) → list_any test xs ≡ false → position_or_len test xs ≡ length xs
 not_found test [] none = refl
 not_found test (x ∷ xs) none =
     let parts = or_parts (test x) (list_any test xs) none in
-    let first : test x ≡ false = parts.0 in rw first (ap suc (not_found test xs parts.1))
+    let first : test x ≡ false = parts.0 in let rest = not_found test xs parts.1 in rw first (omega (arith, rest))
 
 -- a name that has a place was there
 known_name : (names : List (List ℕ)) (name : List ℕ) (b : Bool) → is_entered names name ≡ b → session_of names name < length names → with_name names name ≡ names
@@ -32,13 +32,15 @@ new_name names name false is past = rw is refl
 -- and has it then
 place_of_new : (names : List (List ℕ)) (name : List ℕ) → length names ≤ session_of names name → session_of (names ++ name ∷ []) name ≡ length names
 place_of_new [] name past = let same = name_eq-refl name in rw same refl
-place_of_new (n ∷ names) name past = at (name_eq name n) refl
+place_of_new (n ∷ names) name past = at (name_eq name n) (λ later. place_of_new names name later) refl
   where
-    at : (b : Bool) → name_eq name n ≡ b → session_of (n ∷ names ++ name ∷ []) name ≡ length (n ∷ names)
-    at true is = let first : session_of (n ∷ names) name ≡ 0 = rw is refl in absurd (omega (arith, first, past))
-    at false is =
-        let later : session_of (n ∷ names) name ≡ suc (session_of names name) = rw is refl in
-        rw is (ap suc (place_of_new names name (omega (arith, later, past))))
+    at : (b : Bool) → (length names ≤ session_of names name → session_of (names ++ name ∷ []) name ≡ length names) → name_eq name n ≡ b
+        → session_of (n ∷ names ++ name ∷ []) name ≡ length (n ∷ names)
+    at true others is = let first : session_of (n ∷ names) name ≡ 0 = first_session n names name is in absurd (omega (arith, first, past))
+    at false others is =
+        let later : session_of (n ∷ names) name ≡ suc (session_of names name) = next_session n names name is in
+        let there = others (omega (arith, later, past)) in
+        next_session n (names ++ name ∷ []) name is ∙ omega (arith, there)
 
 -- ---- names and passes after a name that was there
 
@@ -75,7 +77,7 @@ module _ (old new : List (List ℕ)) (name : List ℕ) (passes : List Known) (pl
         let within : length new ≤ MOST_SESSIONS = subst (λ (ns : List (List ℕ)). length ns ≤ MOST_SESSIONS) (sym is_new) (with_name_within old name most away) in
         let both : length later ≡ length new =
             ap length entered ∙ length-append passes _ ∙ ap (λ n. n + 1) count ∙ sym (length-append old (name ∷ [])) ∙ ap length (sym more_names) in
-        (within, both, subst (AreNumberedFrom 0) (sym entered) (numbered-push 0 passes (length passes) refl numbered))
+        (within, both, subst (AreNumberedFrom 0) (sym entered) (numbered-push 0 passes (length passes) (omega arith) numbered))
 
     pub new_place : (place ≡ session_of new name) × (place < length later)
     new_place =

@@ -1,7 +1,8 @@
 -- What the sessions of a run over a shared book made, call by call.
-use Rattle.std.proofs.Common.{◌≡◌, ◌≢◌, ◌⊎◌, ℕ, zero, suc, ◌+◌, ◌<◌, List, [], ◌∷◌, ◌++◌, length, refl, sym, ap, ◌∙◌, subst, inl, inr, arith, append-nil, ◌≤◌, Some, slice_get, Bool, true, false, ◌&&◌, if◌then◌else◌, set, nat_eq}
+use Rattle.std.proofs.Common.{◌≡◌, ◌≢◌, ◌⊎◌, ℕ, zero, suc, ◌+◌, ◌<◌, List, [], ◌∷◌, ◌++◌, length, refl, sym, ap, ◌∙◌, subst, inl, inr, arith, append-nil, ◌≤◌, Some, slice_get, Bool, true, false, ◌&&◌, if◌then◌else◌, set, get_or}
 use Rattle.std.specs.Option.{option_map_or}
 use Rattle.std.proofs.lemmas.List.{length-set}
+use Rattle.std.proofs.lemmas.Option.{slice_get_read}
 use Rattle.std.specs.Cmp.Lexicographic.{same_text, other_text}
 use Rattle.scm_sequences.specs.declared.limits.TheConstants.{MOST_SESSIONS}
 use Rattle.scm_sequences.specs.declared.refusal.Refusal.{Refusal}
@@ -30,14 +31,14 @@ name_eq-refl name = name_eq-refl-at (name_eq name name) name refl
 -- ---- the calls that a pass made
 
 -- a call with this reply, where it became an entry
-called : CallData → ReplyData → List (CallData × ReplyData)
+abbrev pub called : CallData → ReplyData → List (CallData × ReplyData)
 called call reply = if became_entry reply then (call, reply) ∷ [] else []
 
 -- what the pass at this place made
-made_at : List Known → ℕ → List (CallData × ReplyData)
+abbrev pub made_at : List Known → ℕ → List (CallData × ReplyData)
 made_at passes place = option_map_or (λ pass. pass.made) (slice_get passes place) []
 
-made_of : List (List ℕ) → List Known → List ℕ → List (CallData × ReplyData)
+abbrev pub made_of : List (List ℕ) → List Known → List ℕ → List (CallData × ReplyData)
 made_of names passes name = made_at passes (session_of names name)
 
 -- a reply that makes no entry
@@ -106,10 +107,10 @@ pub record Called (old : Known) (call : CallData) (reply : ReplyData) (new : Kno
   pub made : new.made ≡ old.made ++ called call reply
 
 called-some : (call : CallData) (reply : ReplyData) → became_entry reply ≡ true → (call, reply) ∷ [] ≡ called call reply
-called-some call reply became = rw became refl
+called-some call reply became = let one : List (CallData × ReplyData) = (call, reply) ∷ [] in let P : Bool → Type 0 = λ b. one ≡ (if b then one else []) in subst P (sym became) refl
 
 called-none : (call : CallData) (reply : ReplyData) → became_entry reply ≡ false → [] ≡ called call reply
-called-none call reply became = rw became refl
+called-none call reply became = let one : List (CallData × ReplyData) = (call, reply) ∷ [] in let P : Bool → Type 0 = λ b. [] ≡ (if b then one else []) in subst P (sym became) refl
 
 kept : (old new : Known) (call : CallData) (reply : ReplyData) → became_entry reply ≡ false → new.made ≡ old.made → new.made ≡ old.made ++ called call reply
 kept old new call reply became same =
@@ -138,14 +139,28 @@ Called-from old new call reply extended full without line sessions =
 -- ---- a pass among the others
 
 -- the calls of a name's line that became an entry, by whether it is the name asked for
-entry_if : Bool → CallData → ReplyData → List (CallData × ReplyData)
+abbrev pub entry_if : Bool → CallData → ReplyData → List (CallData × ReplyData)
 entry_if is call reply = if is && became_entry reply then (call, reply) ∷ [] else []
 
 entry_if-true : (b : Bool) (call : CallData) (reply : ReplyData) → b ≡ true → entry_if b call reply ≡ called call reply
-entry_if-true b call reply is = rw is refl
+entry_if-true b call reply is = ap (λ c. entry_if c call reply) is
 
 entry_if-false : (b : Bool) (call : CallData) (reply : ReplyData) → b ≡ false → entry_if b call reply ≡ []
-entry_if-false b call reply is = rw is refl
+entry_if-false b call reply is = ap (λ c. entry_if c call reply) is
+
+pub first_session : (n : List ℕ) (names : List (List ℕ)) (name : List ℕ) → name_eq name n ≡ true → session_of (n ∷ names) name ≡ 0
+first_session n names name found = rw found refl
+
+pub next_session : (n : List ℕ) (names : List (List ℕ)) (name : List ℕ) → name_eq name n ≡ false → session_of (n ∷ names) name ≡ suc (session_of names name)
+next_session n names name other = rw other (omega arith)
+
+made_first : (n : List ℕ) (names : List (List ℕ)) (p : Known) (passes : List Known) (name : List ℕ) → name_eq name n ≡ true
+    → made_of (n ∷ names) (p ∷ passes) name ≡ p.made
+made_first n names p passes name found = ap (λ k. made_at (p ∷ passes) k) (first_session n names name found)
+
+made_next : (n : List ℕ) (names : List (List ℕ)) (p : Known) (passes : List Known) (name : List ℕ) → name_eq name n ≡ false
+    → made_of (n ∷ names) (p ∷ passes) name ≡ made_of names passes name
+made_next n names p passes name other = ap (λ k. made_at (p ∷ passes) k) (next_session n names name other)
 
 -- where the pass of the name made this call, what each name's session made
 made-set : (names : List (List ℕ)) (passes : List Known) (place : ℕ) (name other : List ℕ) (pass : Known) (call : CallData) (reply : ReplyData)
@@ -154,40 +169,55 @@ made-set : (names : List (List ℕ)) (passes : List Known) (place : ℕ) (name o
 made-set [] [] place name other pass call reply same is within made = absurd (omega arith)
 made-set [] (p ∷ passes) place name other pass call reply same is within made = absurd (omega arith)
 made-set (n ∷ names) [] place name other pass call reply same is within made = absurd (omega arith)
-made-set (n ∷ names) (p ∷ passes) place name other pass call reply same is within made = at (name_eq name n) (name_eq other n) place refl refl is within made
+made-set (n ∷ names) (p ∷ passes) place name other pass call reply same is within made =
+    at (name_eq name n) (name_eq other n) place (λ k k_is k_within k_made. made-set names passes k name other pass call reply (omega arith) k_is k_within k_made)
+    refl refl is within made
   where
+    -- the same of the others
+    Others : Type 0
+    Others = (k : ℕ) → k ≡ session_of names name → k < length passes → pass.made ≡ made_at passes k ++ called call reply
+        → made_of names (set passes k pass) other ≡ made_of names passes other ++ entry_if (name_eq other name) call reply
+
     first : (b c : Bool) → name_eq name n ≡ true → name_eq other n ≡ b → name_eq other name ≡ c
         → pass.made ≡ p.made ++ called call reply
         → made_of (n ∷ names) (pass ∷ passes) other ≡ made_of (n ∷ names) (p ∷ passes) other ++ entry_if (name_eq other name) call reply
-    first true true named found eq made = rw found (made ∙ ap (λ c. p.made ++ c) (sym (entry_if-true (name_eq other name) call reply eq)))
+    first true true named found eq made =
+        made_first n names pass passes other found ∙ made ∙ ap (λ c. p.made ++ c) (sym (entry_if-true (name_eq other name) call reply eq))
+        ∙ ap (λ m. m ++ entry_if (name_eq other name) call reply) (sym (made_first n names p passes other found))
     first false false named found eq made =
-        rw found (sym (append-nil (made_at passes (session_of names other)))
-        ∙ ap (λ c. made_at passes (session_of names other) ++ c) (sym (entry_if-false (name_eq other name) call reply eq)))
+        made_next n names pass passes other found ∙ sym (append-nil (made_of names passes other))
+        ∙ ap (λ c. made_of names passes other ++ c) (sym (entry_if-false (name_eq other name) call reply eq))
+        ∙ ap (λ m. m ++ entry_if (name_eq other name) call reply) (sym (made_next n names p passes other found))
     first true false named found eq made =
         absurd (other_text other name (sym eq) (same_name other n found ∙ sym (same_name name n named)))
     first false true named found eq made =
         absurd (other_text other n (sym found) (same_name other name eq ∙ same_name name n named))
 
-    later : (b : Bool) (place : ℕ) → name_eq name n ≡ false → name_eq other n ≡ b → place ≡ session_of names name → place < length passes
+    later : (b : Bool) (place : ℕ) → Others → name_eq name n ≡ false → name_eq other n ≡ b → place ≡ session_of names name → place < length passes
         → pass.made ≡ made_at passes place ++ called call reply
         → made_of (n ∷ names) (p ∷ set passes place pass) other ≡ made_of (n ∷ names) (p ∷ passes) other ++ entry_if (name_eq other name) call reply
-    later true place named found is within made = differ (name_eq other name) refl
+    later true place others named found is within made = differ (name_eq other name) refl
       where
         differ : (c : Bool) → name_eq other name ≡ c
             → made_of (n ∷ names) (p ∷ set passes place pass) other ≡ made_of (n ∷ names) (p ∷ passes) other ++ entry_if (name_eq other name) call reply
         differ true eq = absurd (other_text name n (sym named) (sym (same_name other name eq) ∙ same_name other n found))
-        differ false eq = rw found (sym (append-nil p.made) ∙ ap (λ c. p.made ++ c) (sym (entry_if-false (name_eq other name) call reply eq)))
-    later false place named found is within made = rw found (made-set names passes place name other pass call reply (omega arith) is within made)
+        differ false eq =
+            made_first n names p (set passes place pass) other found ∙ sym (append-nil p.made)
+            ∙ ap (λ c. p.made ++ c) (sym (entry_if-false (name_eq other name) call reply eq))
+            ∙ ap (λ m. m ++ entry_if (name_eq other name) call reply) (sym (made_first n names p passes other found))
+    later false place others named found is within made =
+        made_next n names p (set passes place pass) other found ∙ others place is within made
+        ∙ ap (λ m. m ++ entry_if (name_eq other name) call reply) (sym (made_next n names p passes other found))
 
-    at : (b c : Bool) (place : ℕ) → name_eq name n ≡ b → name_eq other n ≡ c → place ≡ session_of (n ∷ names) name → place < length (p ∷ passes)
+    at : (b c : Bool) (place : ℕ) → Others → name_eq name n ≡ b → name_eq other n ≡ c → place ≡ session_of (n ∷ names) name → place < length (p ∷ passes)
         → pass.made ≡ made_at (p ∷ passes) place ++ called call reply
         → made_of (n ∷ names) (set (p ∷ passes) place pass) other ≡ made_of (n ∷ names) (p ∷ passes) other ++ entry_if (name_eq other name) call reply
-    at true c zero named found is within made = first c (name_eq other name) named found refl made
-    at true c (suc place) named found is within made = let none : suc place ≡ 0 = rw named at is in absurd (omega arith)
-    at false c zero named found is within made = let some : 0 ≡ suc (session_of names name) = rw named at is in absurd (omega arith)
-    at false c (suc place) named found is within made =
-        let some : suc place ≡ suc (session_of names name) = rw named at is in
-        later c place named found (omega arith) (omega arith) made
+    at true c zero others named found is within made = first c (name_eq other name) named found refl made
+    at true c (suc place) others named found is within made = let none : suc place ≡ 0 = is ∙ first_session n names name named in absurd (omega arith)
+    at false c zero others named found is within made = let some : 0 ≡ suc (session_of names name) = is ∙ next_session n names name named in absurd (omega arith)
+    at false c (suc place) others named found is within made =
+        let some : suc place ≡ suc (session_of names name) = is ∙ next_session n names name named in
+        later c place others named found (omega arith) (omega arith) made
 
 -- a new pass made nothing
 pub made-push : (names : List (List ℕ)) (passes : List Known) (name other : List ℕ) (number : ℕ) → length passes ≡ length names
@@ -199,12 +229,14 @@ made-push [] [] name other number same = at (name_eq other name) refl
     at false found = rw found refl
 made-push [] (p ∷ passes) name other number same = absurd (omega arith)
 made-push (n ∷ names) [] name other number same = absurd (omega arith)
-made-push (n ∷ names) (p ∷ passes) name other number same = at (name_eq other n) refl
+made-push (n ∷ names) (p ∷ passes) name other number same = at (name_eq other n) (made-push names passes name other number (omega arith)) refl
   where
-    at : (b : Bool) → name_eq other n ≡ b
+    at : (b : Bool) → made_of (names ++ name ∷ []) (passes ++ newcomer number ∷ []) other ≡ made_of names passes other → name_eq other n ≡ b
         → made_of (n ∷ names ++ name ∷ []) (p ∷ passes ++ newcomer number ∷ []) other ≡ made_of (n ∷ names) (p ∷ passes) other
-    at true found = rw found refl
-    at false found = rw found (made-push names passes name other number (omega arith))
+    at true others found =
+        made_first n (names ++ name ∷ []) p (passes ++ newcomer number ∷ []) other found ∙ sym (made_first n names p passes other found)
+    at false others found =
+        made_next n (names ++ name ∷ []) p (passes ++ newcomer number ∷ []) other found ∙ others ∙ sym (made_next n names p passes other found)
 
 -- ---- numbers
 
@@ -213,7 +245,7 @@ pub numbered-push : (from : ℕ) (passes : List Known) (number : ℕ) → number
 numbered-push from [] number is numbered = (omega arith, tt)
 numbered-push from (p ∷ passes) number is numbered = (numbered.0, numbered-push (from + 1) passes number (omega arith) numbered.1)
 
-number_at : ℕ → List Known → ℕ → ℕ
+abbrev pub number_at : ℕ → List Known → ℕ → ℕ
 number_at from passes place = option_map_or (λ pass. pass.number) (slice_get passes place) from
 
 pub numbered-set : (from : ℕ) (passes : List Known) (place : ℕ) (pass : Known) → place < length passes → pass.number ≡ number_at from passes place
@@ -235,34 +267,45 @@ numbered-set from (p ∷ passes) (suc place) pass within same numbered =
 
 module _ (names : List (List ℕ)) (passes later : List Known) (place : ℕ) (name : List ℕ) (pass : Known) (call : CallData) (reply : ReplyData)
     (count : length passes ≡ length names) (is_place : place ≡ session_of names name) (within : place < length passes)
-    (old : Known) (is_old : slice_get passes place ≡ Some old) (is_later : later ≡ set passes place pass) (is_called : Called old call reply pass) where
+    (old : Known) (is_old : old ≡ get_or passes place old) (is_later : later ≡ set passes place pass) (is_called : Called old call reply pass) where
+  there : slice_get passes place ≡ Some old
+  there = slice_get_read passes (length passes) place old refl within is_old
+
   made_there : pass.made ≡ made_at passes place ++ called call reply
-  made_there = is_called.made ∙ ap (λ o. option_map_or (λ (p : Known). p.made) o [] ++ called call reply) (sym is_old)
+  made_there = is_called.made ∙ ap (λ o. option_map_or (λ (p : Known). p.made) o [] ++ called call reply) (sym there)
 
   number_there : pass.number ≡ number_at 0 passes place
-  number_there = is_called.number ∙ ap (λ o. option_map_or (λ (p : Known). p.number) o 0) (sym is_old)
+  number_there = is_called.number ∙ ap (λ o. option_map_or (λ (p : Known). p.number) o 0) (sym there)
 
   pub called_invariant : length names ≤ MOST_SESSIONS → AreNumberedFrom 0 passes
       → (length names ≤ MOST_SESSIONS) × (length later ≡ length names) × AreNumberedFrom 0 later
   called_invariant most numbered =
       (most, ap length is_later ∙ length-set passes place pass ∙ count, subst (AreNumberedFrom 0) (sym is_later) (numbered-set 0 passes place pass within number_there numbered))
 
-  pub called_makes : reply ≢ refused BadLine → MakesCall (callers names passes) name call reply (callers names later)
-  called_makes good = record {
-    reply_is = good;
+  called_since : reply ≢ refused BadLine → MakesCall (callers names passes) name call reply (callers names later)
+  called_since fits = record {
+    reply_is = fits;
     made = λ other. ap (λ (ps : List Known). made_by (callers names ps) other) is_later
         ∙ made-set names passes place name other pass call reply count is_place within made_there;
   }
 
+  -- the same, from where the name entered
+  pub called_makes : (start : Callers) → ((other : List ℕ) → made_by (callers names passes) other ≡ made_by start other) → reply ≢ refused BadLine
+      → MakesCall start name call reply (callers names later)
+  called_makes start entered fits = record {
+    reply_is = fits;
+    made = λ other. (called_since fits).made other ∙ ap (λ m. m ++ entry_if (name_eq other name) call reply) (entered other);
+  }
+
 -- a call that is refused before the book saw it
 nothing_made : (b : Bool) (call : CallData) (reply : ReplyData) → became_entry reply ≡ false → [] ≡ entry_if b call reply
-nothing_made true call reply none = rw none refl
+nothing_made true call reply none = called-none call reply none
 nothing_made false call reply none = refl
 
 refused_by : (old new : Callers) (name : List ℕ) (call : CallData) (refusal : Refusal) → became_entry (refused refusal) ≡ false
     → refused refusal ≢ refused BadLine → ((other : List ℕ) → made_by new other ≡ made_by old other) → MakesCall old name call (refused refusal) new
-refused_by old new name call refusal none good made = record {
-  reply_is = good;
+refused_by old new name call refusal none fits made = record {
+  reply_is = fits;
   made = λ other. made other ∙ sym (append-nil (made_by old other))
       ∙ ap (λ e. made_by old other ++ e) (nothing_made (name_eq other name) call (refused refusal) none);
 }

@@ -1,20 +1,23 @@
 //! The run of a script with workers beside it.
-ghost use Rattle.std.specs.Prelude.{◌≡◌, ◌≢◌, ◌↔◌, ℕ, List, [], true, false, IfOk, IfErr, OnOk, IsErrOf, IsTrue};
+ghost use Rattle.std.specs.Prelude.{◌≡◌, ◌≢◌, ◌≤◌, ◌↔◌, [], length, true, false, vec_capacity, IfOk, IfErr, OnOk, IsErrOf, IsTrue};
+ghost use Rattle.scm_sequences.specs.declared.limits.TheConstants.{MOST_SESSIONS};
 ghost use Rattle.scm_book.specs.Journal.{IsLegalBook};
 ghost use Rattle.scm_sessions.specs.Ports.{inner_of, has_failed};
 ghost use Rattle.scm_sessions.specs.Reading.{unread_of};
 ghost use Rattle.scm_sessions.specs.JournalText.{AreNamed};
 ghost use Rattle.scm_sessions.specs.Exchanges.{LeadTo, RunsWhole, RunsWholeLines, RunsPart};
-ghost use Rattle.scm_sessions.specs.Callers.{MakesCall};
+ghost use Rattle.scm_sessions.specs.Callers.{callers, AreNumberedFrom, MakesCall};
 ghost use Rattle.scm_sessions.specs.SharedRuns.{AllFit, IsSharedRun};
 
 use crate::reading::LineReader;
 use crate::run::run_lines;
 use crate::shared_sessions::SharedSessions;
 use crate::{Ended, Port, RunFault};
+use scm_cells::Name;
 use scm_expand::{Gate, run_workers};
+use scm_results::Tally;
 use scm_sequences::MOST_SESSIONS;
-use scm_shared::{BookNaming, BookToken, SharedBook};
+use scm_shared::{BookNaming, BookToken, Pass, SharedBook};
 use std::alloc::Global;
 use std::io::{Read, Write};
 use std::sync::Wait;
@@ -50,6 +53,68 @@ fn run_and_stop<B: BookNaming, T: Wait, R: Read, W: Write>(
     let ran = run_lines(alloc, sessions, lines, reader, writer);
     book.stop_workers();
     ran
+}
+
+/// The names of the sessions in the order of their entry, their passes, and the tallies of workers and collector.
+#[derive(Drop)]
+struct Ran<B: BookNaming> {
+    names: Vec<Name>,
+    passes: Vec<Pass<B>>,
+    tallies: Vec<Tally<B>>,
+}
+
+/// Answers each line of the script that is left, up to a fault, beside workers, which end with it. The names go into `room`.
+fn run_beside_workers<
+    'a,
+    B: BookNaming + Send + Sync,
+    R: Read,
+    W: Write,
+    G: Gate + Sync,
+    T: Threads + Wait + Sync,
+>(
+    rt: &'a T,
+    alloc: Global,
+    book: &'a SharedBook<B>,
+    room: Vec<Name>,
+    lines: &mut LineReader,
+    reader: &mut Port<R>,
+    writer: &mut Port<W>,
+    gate: &G,
+    workers: usize,
+) -> Result<Ran<B>, RunFault>
+    requires empty { room.items ≡ [] }
+    requires fits { MOST_SESSIONS ≤ vec_capacity room }
+    requires fresh { unread_of lines.old ≡ [] }
+    requires reads { has_failed reader.old ≡ false }
+    requires writes { has_failed writer.old ≡ false }
+    ensures ok { IfOk result (λ ran. RunsWhole (R.remaining (inner_of reader.old)) (R.remaining (inner_of reader.new))
+        (W.contents (inner_of writer.old)) (W.contents (inner_of writer.new))
+        (λ exchanges. LeadTo MakesCall (callers [] []) exchanges (callers ran.names.items ran.passes.items))) }
+    ensures each { IfOk result (λ ran. length ran.passes.items ≡ length ran.names.items) }
+    ensures numbered { IfOk result (λ ran. AreNumberedFrom 0 ran.passes.items) }
+    ensures read_failed { IsErrOf result RunFault.ReadFailed →
+        RunsWholeLines (R.remaining (inner_of reader.old)) (R.remaining (inner_of reader.new))
+        (W.contents (inner_of writer.old)) (W.contents (inner_of writer.new)) AllFit }
+    ensures write_failed { IsErrOf result RunFault.WriteFailed →
+        RunsPart (R.remaining (inner_of reader.old)) (R.remaining (inner_of reader.new))
+        (W.contents (inner_of writer.old)) (W.contents (inner_of writer.new)) AllFit }
+    ensures reader_failed { IsErrOf result RunFault.ReadFailed ↔ (has_failed reader.new ≡ true) }
+    ensures writer_failed { IsErrOf result RunFault.WriteFailed ↔ (has_failed writer.new ≡ true) }
+    ensures memory { IfErr result (λ fault. fault ≢ RunFault.NoMemory) }
+{
+    let mut sessions = SharedSessions::new(alloc, rt, book);
+    let (tallies, ran) = join_mut(
+        rt,
+        &mut || run_workers::<B, SharedBook<B>, G, T>(rt, alloc, book, gate, workers),
+        &mut || run_and_stop(alloc, book, &mut sessions, lines, reader, writer),
+    );
+    ran?;
+    let (names, passes) = sessions.into_parts(room);
+    Ok(Ran {
+        names,
+        passes,
+        tallies: tallies.unwrap_or(Vec::new(alloc)),
+    })
 }
 
 /// Runs a script over a new book, in its order on the caller's thread, while `workers` threads and a collector look for
@@ -96,19 +161,17 @@ pub fn run_with_workers<
         (reader.new ≡ reader.old) × (writer.new ≡ writer.old) }
 {
     let mut lines = LineReader::new(alloc)?;
-    let Ok(names) = Vec::with_capacity(alloc, MOST_SESSIONS) else {
+    let Ok(room) = Vec::with_capacity(alloc, MOST_SESSIONS) else {
         return Err(RunFault::NoMemory);
     };
     let book = SharedBook::<B>::new(alloc, token);
-    let mut sessions = SharedSessions::new(alloc, rt, &book);
-    let (tallies, ran) = join_mut(
-        rt,
-        &mut || run_workers::<B, SharedBook<B>, G, T>(rt, alloc, &book, gate, workers),
-        &mut || run_and_stop(alloc, &book, &mut sessions, &mut lines, reader, writer),
-    );
-    ran?;
-    let (names, passes) = sessions.into_parts(names);
-    let tallies = tallies.unwrap_or(Vec::new(alloc));
+    let Ran {
+        names,
+        passes,
+        tallies,
+    } = run_beside_workers::<B, R, W, G, T>(
+        rt, alloc, &book, room, &mut lines, reader, writer, gate, workers,
+    )?;
     Ok(Ended {
         audit: book.audit(passes, tallies),
         names,
