@@ -55,6 +55,51 @@ fn run_and_stop<B: BookNaming, T: Wait, R: Read, W: Write>(
     ran
 }
 
+/// Answers each line of the script that is left, up to a fault, beside workers, which end with it. Gives the tallies of workers
+/// and collector too.
+fn run_beside_workers<
+    B: BookNaming + Send + Sync,
+    R: Read,
+    W: Write,
+    G: Gate + Sync,
+    T: Threads + Wait + Sync,
+>(
+    rt: &T,
+    alloc: Global,
+    book: &SharedBook<B>,
+    sessions: &mut SharedSessions<'_, B, T>,
+    lines: &mut LineReader,
+    reader: &mut Port<R>,
+    writer: &mut Port<W>,
+    gate: &G,
+    workers: usize,
+) -> (Vec<Tally<B>>, Result<(), RunFault>)
+    requires fresh { unread_of lines.old ≡ [] }
+    requires reads { has_failed reader.old ≡ false }
+    requires writes { has_failed writer.old ≡ false }
+    ensures ok { OnOk result.1 (RunsWhole (R.remaining (inner_of reader.old)) (R.remaining (inner_of reader.new))
+        (W.contents (inner_of writer.old)) (W.contents (inner_of writer.new))
+        (λ exchanges. LeadTo MakesCall sessions.old exchanges sessions.new)) }
+    ensures read_failed { IsErrOf result.1 RunFault.ReadFailed →
+        RunsWholeLines (R.remaining (inner_of reader.old)) (R.remaining (inner_of reader.new))
+        (W.contents (inner_of writer.old)) (W.contents (inner_of writer.new))
+        (λ exchanges. LeadTo MakesCall sessions.old exchanges sessions.new) }
+    ensures write_failed { IsErrOf result.1 RunFault.WriteFailed →
+        RunsPart (R.remaining (inner_of reader.old)) (R.remaining (inner_of reader.new))
+        (W.contents (inner_of writer.old)) (W.contents (inner_of writer.new))
+        (λ exchanges. LeadTo MakesCall sessions.old exchanges sessions.new) }
+    ensures reader_failed { IsErrOf result.1 RunFault.ReadFailed ↔ (has_failed reader.new ≡ true) }
+    ensures writer_failed { IsErrOf result.1 RunFault.WriteFailed ↔ (has_failed writer.new ≡ true) }
+    ensures memory { IfErr result.1 (λ fault. fault ≢ RunFault.NoMemory) }
+{
+    let (tallies, ran) = join_mut(
+        rt,
+        &mut || run_workers::<B, SharedBook<B>, G, T>(rt, alloc, book, gate, workers),
+        &mut || run_and_stop(alloc, book, sessions, lines, reader, writer),
+    );
+    (tallies.unwrap_or(Vec::new(alloc)), ran)
+}
+
 /// The names of the sessions in the order of their entry, their passes, and the tallies of workers and collector.
 #[derive(Drop)]
 struct Ran<B: BookNaming> {
@@ -63,8 +108,8 @@ struct Ran<B: BookNaming> {
     tallies: Vec<Tally<B>>,
 }
 
-/// Answers each line of the script that is left, up to a fault, beside workers, which end with it. The names go into `room`.
-fn run_beside_workers<
+/// Runs the script over this book, beside workers. The names go into `room`.
+fn run_over<
     'a,
     B: BookNaming + Send + Sync,
     R: Read,
@@ -103,17 +148,23 @@ fn run_beside_workers<
     ensures memory { IfErr result (λ fault. fault ≢ RunFault.NoMemory) }
 {
     let mut sessions = SharedSessions::new(alloc, rt, book);
-    let (tallies, ran) = join_mut(
+    let (tallies, ran) = run_beside_workers::<B, R, W, G, T>(
         rt,
-        &mut || run_workers::<B, SharedBook<B>, G, T>(rt, alloc, book, gate, workers),
-        &mut || run_and_stop(alloc, book, &mut sessions, lines, reader, writer),
+        alloc,
+        book,
+        &mut sessions,
+        lines,
+        reader,
+        writer,
+        gate,
+        workers,
     );
     ran?;
     let (names, passes) = sessions.into_parts(room);
     Ok(Ran {
         names,
         passes,
-        tallies: tallies.unwrap_or(Vec::new(alloc)),
+        tallies,
     })
 }
 
@@ -169,7 +220,7 @@ pub fn run_with_workers<
         names,
         passes,
         tallies,
-    } = run_beside_workers::<B, R, W, G, T>(
+    } = run_over::<B, R, W, G, T>(
         rt, alloc, &book, room, &mut lines, reader, writer, gate, workers,
     )?;
     Ok(Ended {
