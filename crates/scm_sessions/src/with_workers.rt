@@ -92,11 +92,9 @@ fn run_beside_workers<
     ensures writer_failed { IsErrOf result.1 RunFault.WriteFailed ↔ (has_failed writer.new ≡ true) }
     ensures memory { IfErr result.1 (λ fault. fault ≢ RunFault.NoMemory) }
 {
-    let (tallies, ran) = join_mut(
-        rt,
-        &mut || run_workers::<B, SharedBook<B>, G, T>(rt, alloc, book, gate, workers),
-        &mut || run_and_stop(alloc, book, sessions, lines, reader, writer),
-    );
+    let mut work = || run_workers::<B, SharedBook<B>, G, T>(rt, alloc, book, gate, workers);
+    let mut script = || run_and_stop(alloc, book, sessions, lines, reader, writer);
+    let (tallies, ran) = join_mut(rt, &mut work, &mut script);
     (tallies.unwrap_or(Vec::new(alloc)), ran)
 }
 
