@@ -14,6 +14,7 @@ SECONDS = 60  # after this a question is given up
 REPEATS = 3  # the best of so many runs counts
 STORES = 9  # of each writer
 WRITERS = range(1, 7)  # 10, 100, .. 1,000,000 situations
+ASKED = 50  # questions where many situations are held
 ROUNDS = (10, 100, 1_000)  # of a trace that grows, two reports and a question each
 
 
@@ -103,6 +104,14 @@ def growing(rounds):
         yield "a ask t"
 
 
+def held(writers, later):
+    """The first of these, and then the same lines a number of times. An operation of the reader after the one that has
+    no place adds no situation."""
+    yield from forbidden(writers)
+    for _ in range(ASKED):
+        yield from (line.format(writers) for line in later)
+
+
 def machine():
     model = platform.processor() or platform.machine()
     memory = "memory unknown"
@@ -140,6 +149,22 @@ def measure_questions(program, title, family, verdict):
         print(f"{writers:>8} {STORES:>7} {situations:>11,} {taken:>9.3f} {situations / taken:>13,.0f}")
 
 
+def measure_held(program):
+    """What a question costs beside those before it: the time of the run, less that of the same run without it."""
+    print("\na question where situations are held, inconsistent before and after")
+    print(f"{'situations':>11} {'asked again, ms':>16} {'a report and a question, ms':>28}")
+    for writers in WRITERS[2:]:
+        alone = best(program, script_of(forbidden(writers)), SECONDS)
+        again = best(program, script_of(held(writers, ["a ask t"])), SECONDS)
+        longer = best(program, script_of(held(writers, ["a do t {} lw c0 1", "a ask t"])), SECONDS)
+        if alone is None or again is None or longer is None:
+            return
+        if not all(ran[0][-1].startswith(b"a inconsistent") for ran in (alone, again, longer)):
+            sys.exit("bench: wrong verdict")
+        each = [(ran[1] - alone[1]) / ASKED * 1_000 for ran in (again, longer)]
+        print(f"{(STORES + 1) ** writers:>11,} {each[0]:>16.3f} {each[1]:>28.3f}")
+
+
 def measure_growth(program):
     print("\na trace that grows and stays consistent: two reports and a question, again and again")
     print(f"{'questions':>10} {'operations':>11} {'seconds':>9} {'questions/s':>12}")
@@ -167,6 +192,7 @@ def main():
     measure_reports(program)
     measure_questions(program, "questions that are inconsistent: all situations are found", forbidden, b"a inconsistent")
     measure_questions(program, "questions that are consistent: the writers' situations, and those of the reader", allowed, b"a consistent")
+    measure_held(program)
     measure_growth(program)
     measure_checker(os.path.abspath(sys.argv[2]))
 

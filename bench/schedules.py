@@ -2,9 +2,9 @@
 
 import itertools
 import random
+import resource
 import subprocess
 import sys
-import time
 
 import traces
 
@@ -14,13 +14,21 @@ SECONDS = 120
 
 
 def run(program, lines):
+    """The replies, and the user time of the run: other work on the machine counts little in it."""
     script = "".join(line + "\n" for line in lines).encode()
-    begin = time.perf_counter()
+    begin = resource.getrusage(resource.RUSAGE_CHILDREN).ru_utime
     try:
-        ended = subprocess.run([program], input=script, stdout=subprocess.PIPE, timeout=SECONDS)
+        replies = subprocess.run([program], input=script, stdout=subprocess.PIPE, timeout=SECONDS).stdout.splitlines()
     except subprocess.TimeoutExpired:
-        return None, time.perf_counter() - begin
-    return ended.stdout.splitlines(), time.perf_counter() - begin
+        replies = None
+    return replies, resource.getrusage(resource.RUSAGE_CHILDREN).ru_utime - begin
+
+
+def show(name, decided, times):
+    """One row: the mean time, the one that 99 of 100 stay under, and the longest."""
+    ordered = sorted(times)
+    mean, nearly, most = sum(times) / len(times), ordered[len(times) * 99 // 100], ordered[-1]
+    print(f"{name:<40} {decided:>4} of {len(times):<4} {mean:>9.4f} {nearly:>9.4f} {most:>9.4f}", flush=True)
 
 
 def measure(program, name, scripts):
@@ -34,8 +42,7 @@ def measure(program, name, scripts):
             sys.exit(f"{name}: wrong verdict")
         decided += bool(replies) and replies[-1].startswith(b"a consistent")
         times.append(max(0.0, taken - reporting))
-    mean, most = sum(times) / len(times), max(times)
-    print(f"{name:<40} {decided:>4} of {len(times):<4} {mean:>9.4f} {most:>9.4f}", flush=True)
+    show(name, decided, times)
 
 
 def at_random(procs, length, cells, values, samples):
@@ -71,23 +78,44 @@ def explained(lines):
             missing.pop((cell, values[-1]), None)
 
 
+def used(running):
+    """The seconds of a processor that a running program has used."""
+    with open(f"/proc/{running.pid}/schedstat", encoding="ascii") as told:
+        return int(told.read().split()[0]) / 1e9
+
+
+def questions(program, lines):
+    """The reply to each question, with the processor's time of the question and of the reports just before it."""
+    with subprocess.Popen([program], stdin=subprocess.PIPE, stdout=subprocess.PIPE) as running:
+        waiting, before = 0, 0.0
+        for line in lines:
+            running.stdin.write(line.encode() + b"\n")
+            waiting += 1
+            if " ask " not in line:
+                continue
+            running.stdin.flush()
+            reply = [running.stdout.readline() for _ in range(waiting)][-1]
+            now = used(running)
+            yield reply, now - before
+            waiting, before = 0, now
+        running.stdin.close()
+
+
 def measure_growth(program, samples):
-    """How many of the questions are decided whose values are all explained; the others have no schedule."""
+    """How many of the questions are decided whose values are all explained, and their times; the others have no schedule."""
     for number in range(samples):
-        rng = random.Random(number)
-        lines = list(traces.growing(rng, 8, 500, 8, 0.5, 10))
-        replies, taken = run(program, lines)
-        asked = [reply for line, reply in zip(lines, replies) if " ask " in line]
-        able = [reply for reply, is_able in zip(asked, explained(lines)) if is_able]
-        decided = sum(not reply.startswith(b"a undecided") for reply in able)
-        print(f"{'8 x 500, grows':<40} {decided:>4} of {len(able):<4} {taken / len(asked):>9.4f}", flush=True)
+        lines = list(traces.growing(random.Random(number), 8, 500, 8, 0.5, 10))
+        asked = zip(questions(program, lines), explained(lines))
+        able = [(reply, taken) for (reply, taken), is_able in asked if is_able]
+        decided = sum(not reply.startswith(b"a undecided") for reply, _ in able)
+        show("8 x 500, grows", decided, [taken for _, taken in able])
 
 
 def main():
     program = sys.argv[1]
     samples = int(sys.argv[2]) if len(sys.argv) > 2 else 1
     only = sys.argv[3] if len(sys.argv) > 3 else ""
-    print(f"{'traces':<40} {'decided':>12} {'mean s':>9} {'most s':>9}")
+    print(f"{'traces':<40} {'decided':>12} {'mean s':>9} {'99 % s':>9} {'most s':>9}")
     rows = [(f"{p} x {n}, unique values", at_random(p, n, (2, 8, 32), 0, samples)) for p, n in itertools.product((2, 4, 8), (100, 1_000, 5_000))]
     rows += [(f"{p} x {n}, unique values", at_random(p, n, (2, 8, 32), 0, samples)) for p, n in itertools.product((16, 32), (200, 1_000))]
     rows += [(f"{p} x 1000, {name}", synchronized(name, p, samples)) for name, p in itertools.product(traces.PROGRAMS, (4, 8))]

@@ -3,14 +3,10 @@
 //! RISC-V Unprivileged ISA 20191213, chapter "A".
 #![tactic(auto)]
 
-#[cfg(test)]
-mod corner_tests;
 mod kind;
 mod list;
 mod names;
 mod results;
-#[cfg(test)]
-mod tests;
 
 pub use kind::AmoKind;
 pub use list::at;

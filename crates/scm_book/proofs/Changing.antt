@@ -4,7 +4,7 @@ use Rattle.scm_sequences.specs.declared.refusal.Refusal.{Refusal}
 use Rattle.scm_book.specs.Calls.{CallData, opens, claims, releases, reports, sets_mark, goes_back, raises, asks, asks_why, shows, lists, closes, ReplyData, done, marked}
 use Rattle.scm_book.specs.Machine.{Machine, TraceState, trace_named}
 use Rattle.scm_book.specs.Refusals.{refusal_of}
-use Rattle.scm_book.specs.Steps.{Unless, HasEffect, IsStep, IsStepOrNoMemory}
+use Rattle.scm_book.specs.Steps.{Unless, HasEffect, IsStepOrNoMemory}
 use Rattle.scm_book.specs.Changes.{tells_of_change}
 
 -- a reply that doesn't tell of a change is neither of these

@@ -3,6 +3,7 @@ pub mod Marking
 pub mod Entries
 pub mod Answering
 pub mod Questions
+mod AskedLengths
 pub mod Sounding
 mod Counting
 mod Changing

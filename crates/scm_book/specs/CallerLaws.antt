@@ -1,9 +1,8 @@
 -- The calls of a session go on with a history: with each entry of its own by one, with those of others not at all.
-use Rattle.std.proofs.Common.{◌≡◌, ◌≢◌, ℕ, List, [], ◌∷◌, ◌++◌, Bool, true, false, refl, sym, ap, ◌∙◌, ◌==◌, cond}
+use Rattle.std.proofs.Common.{◌≡◌, ◌≢◌, ℕ, List, [], ◌∷◌, ◌++◌, Bool, true, false, refl, sym, ap, ◌∙◌, ◌==◌}
 use Rattle.std.proofs.lemmas.Bool.{ne_eqb, eq-eqb}
 use Rattle.std.proofs.lemmas.List.{append-nil}
 use Rattle.scm_book.specs.Calls.{CallData, ReplyData, EntryData}
-use Rattle.scm_book.specs.Journal.{entered, count_of}
 use Rattle.scm_book.specs.Callers.{calls_by}
 
 -- with one more call or without it

@@ -6,6 +6,7 @@ pub mod Showing
 pub mod Verdicts
 pub mod Refusals
 pub mod Steps
+pub mod Asking
 pub mod Changes
 pub mod Runs
 pub mod Journal

@@ -4,6 +4,7 @@
 mod book;
 mod call;
 mod declarations;
+mod earlier;
 mod entry;
 mod event;
 mod fixing;
@@ -13,13 +14,7 @@ mod proposing;
 mod question;
 mod reply;
 mod showing;
-#[cfg(test)]
-mod test_words;
-#[cfg(test)]
-mod tests;
 mod traces;
-#[cfg(test)]
-mod worker_tests;
 
 pub use book::Book;
 pub use call::{Call, Decl};

@@ -15,6 +15,7 @@ mod asking;
 mod working;
 
 use crate::declarations::declare_cells;
+use crate::earlier::Earlier;
 use crate::showing::show_all;
 use crate::{Decl, Shown};
 use scm_budget::Budget;
@@ -38,6 +39,8 @@ pub(crate) struct OpenTrace {
     marks: Marks,
     // What questions and outcomes found out stays for the next questions.
     reach: Reach,
+    // So does the last schedule, for their proposals.
+    earlier: Earlier,
 }
 
 impl Model for OpenTrace {
@@ -99,6 +102,7 @@ impl OpenTrace {
             claimants,
             marks: Marks::new(alloc),
             reach,
+            earlier: Earlier::new(alloc),
         })
     }
 
@@ -200,6 +204,7 @@ impl OpenTrace {
         let lengths = self.marks.get(mark)?;
         self.reach.cut(&self.sequences, lengths);
         self.sequences.cut(lengths);
+        self.earlier.cut(lengths);
         self.marks.back(mark);
         Ok(())
     }
@@ -212,6 +217,7 @@ impl OpenTrace {
         ensures unchanged { OnErr result (self.new ≡ self.old) }
     {
         self.check_owner(session)?;
+        self.earlier.retry();
         self.budget.raise(budget)
     }
 

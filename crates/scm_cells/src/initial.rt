@@ -39,18 +39,3 @@ impl Initial {
         }
     }
 }
-
-#[cfg(test)]
-mod tests {
-    use super::*;
-
-    #[test]
-    fn words_of_a_declaration(rt: HostRuntime) {
-        assert_eq!(rt; read_initial(b"?"), Some(Initial::Unset));
-        assert_eq!(rt; read_initial(b"0"), Some(Initial::Given(Num::Plain(0))));
-        assert_eq!(rt; read_initial(b"-1"), Some(Initial::Given(Num::Negative(1))));
-        for word in ["", "??", "?0", "-?", "x"] {
-            assert_eq!(rt; read_initial(word.as_bytes()), None, "{word:?}");
-        }
-    }
-}

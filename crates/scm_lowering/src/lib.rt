@@ -4,8 +4,6 @@
 mod access;
 mod lowering;
 mod reading;
-#[cfg(test)]
-mod tests;
 
 pub use access::Access;
 pub use lowering::lower;

@@ -43,6 +43,11 @@ impl Clocks {
         self.counts.get(x, process)
     }
 
+    /// The clock of an operation.
+    pub(crate) fn row(&self, x: u32) -> Option<&[u32]> {
+        self.counts.row(x)
+    }
+
     pub(crate) fn set(&mut self, x: u32, process: u32, count: u32) -> Option<()> {
         if self.is_recorded {
             let change = Change {

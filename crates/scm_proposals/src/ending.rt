@@ -1,4 +1,5 @@
 //! Whether a trace's end is near: then no proposal is needed.
+use crate::beginning::{make, next_of};
 use scm_sequences::{Lengths, Op, Sequences};
 
 /// The most operations that are left near the end.
@@ -43,21 +44,4 @@ fn next_legal(
         }
     }
     None
-}
-
-/// The next operation of process `p` within the lengths.
-fn next_of(p: usize, count: u32, sequences: &Sequences, lengths: &Lengths) -> Option<Op> {
-    if p < lengths.procs() && count < lengths.get(p) {
-        sequences.next(p, count as usize)
-    } else {
-        None
-    }
-}
-
-/// Makes the next operation of process `p`.
-fn make(counts: &mut [u32], contents: &mut [Option<u64>], p: usize, op: Op) -> Option<()> {
-    let count = counts.get_mut(p)?;
-    *count = count.checked_add(1)?;
-    *contents.get_mut(op.cell())? = Some(op.value_after());
-    Some(())
 }

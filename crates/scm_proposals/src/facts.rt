@@ -1,4 +1,5 @@
 //! What is known of a trace before the walk.
+use crate::beginning::Beginning;
 use crate::numbering::Numbering;
 use crate::sources::Sources;
 use crate::values::Values;
@@ -18,15 +19,16 @@ pub(crate) struct Facts {
 }
 
 impl Facts {
+    /// Of what is left after a beginning.
     pub(crate) fn new(
         alloc: Global,
-        initials: &[Option<u64>],
+        beginning: &Beginning,
         sequences: &Sequences,
         lengths: &Lengths,
     ) -> Option<Facts> {
-        let numbering = Numbering::new(alloc, sequences, lengths)?;
-        let cells = u32::try_from(initials.len()).ok()?;
-        let mut values = Values::new(alloc, initials, &numbering)?;
+        let numbering = Numbering::new(alloc, &beginning.counts, sequences, lengths)?;
+        let cells = u32::try_from(beginning.contents.len()).ok()?;
+        let mut values = Values::new(alloc, &beginning.contents, &numbering)?;
         let writes = Writes::new(alloc, cells, &numbering, &values.written)?;
         let sources = Sources::new(alloc, &numbering, &mut values)?;
         Some(Facts {

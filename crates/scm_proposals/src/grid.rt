@@ -29,6 +29,11 @@ impl Grid {
             .wrapping_add(column as usize)
     }
 
+    pub(crate) fn row(&self, row: u32) -> Option<&[u32]> {
+        let start = self.place(row, 0);
+        self.numbers.get(start..start.checked_add(self.width)?)
+    }
+
     pub(crate) fn get(&self, row: u32, column: u32) -> Option<u32> {
         self.numbers.get(self.place(row, column)).copied()
     }

@@ -2,6 +2,7 @@
 //! believed, and no contract here says more than that a call is safe and ends; `scm_schedules::is_legal` is the judge.
 #![tactic(auto)]
 
+mod beginning;
 mod choosing;
 mod clocks;
 mod ending;
@@ -22,6 +23,3 @@ mod writes;
 
 pub use ending::is_near_end;
 pub use proposal::propose;
-
-#[cfg(test)]
-mod tests;

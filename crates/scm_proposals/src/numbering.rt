@@ -4,7 +4,7 @@ ghost use Rattle.std.specs.Prelude.{◌≤◌, length};
 use scm_sequences::{Lengths, Op, Sequences};
 use std::alloc::Global;
 
-/// All operations within the lengths under one number each: those of process 0 in order, then those of process 1, ..
+/// All operations that are left under one number each: those of process 0 in order, then those of process 1, ..
 #[derive(Drop)]
 pub(crate) struct Numbering {
     ops: Vec<Op>,
@@ -16,6 +16,7 @@ pub(crate) struct Numbering {
 impl Numbering {
     pub(crate) fn new(
         alloc: Global,
+        made: &[u32],
         sequences: &Sequences,
         lengths: &Lengths,
     ) -> Option<Numbering> {
@@ -26,21 +27,22 @@ impl Numbering {
             counts: Vec::new(alloc),
         };
         for p in 0..lengths.procs() {
-            numbering.add(sequences.operations(p), lengths.get(p))?;
+            let left = *made.get(p)? as usize..lengths.get(p) as usize;
+            numbering.add(sequences.operations(p).get(left)?)?;
         }
         Some(numbering)
     }
 
-    // Adds a process with so many of these operations.
-    fn add(&mut self, ops: &[Op], count: u32) -> Option<()> {
+    // Adds a process with these operations.
+    fn add(&mut self, ops: &[Op]) -> Option<()> {
         let owner = self.procs()?;
         let first = self.len()?;
         self.firsts.push(first).ok()?;
-        for op in ops.iter().take(count as usize) {
+        for op in ops {
             self.ops.push(*op).ok()?;
             self.owners.push(owner).ok()?;
         }
-        self.counts.push(count).ok()
+        self.counts.push(u32::try_from(ops.len()).ok()?).ok()
     }
 
     pub(crate) fn procs(&self) -> Option<u32> {

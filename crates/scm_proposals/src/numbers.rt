@@ -35,3 +35,12 @@ impl Numbers {
         Some(())
     }
 }
+
+/// Whether each number is at most the one at its place among `others`.
+pub(crate) fn is_covered(numbers: &[u32], others: &[u32]) -> bool {
+    let mut is_more = false;
+    for (number, other) in numbers.iter().zip(others) {
+        is_more |= number > other;
+    }
+    !is_more
+}

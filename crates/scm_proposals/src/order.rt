@@ -2,15 +2,11 @@
 use crate::clocks::Clocks;
 use crate::facts::Facts;
 use crate::flags::Flags;
-use crate::numbers::Numbers;
+use crate::numbers::{Numbers, is_covered};
 use std::alloc::Global;
 
-/// How far beyond the front operations are visited during the walk, where the processes are few and where they are many.
-const WINDOW_OF_FEW: u32 = 24;
-
-const WINDOW_OF_MANY: u32 = 12;
-
-const FEW_PROCESSES: u32 = 8;
+/// How far beyond the front operations are visited during the walk.
+const WINDOW: u32 = 24;
 
 /// The clocks of all operations, and how far each process has come. `None` from a method that raises clocks says that
 /// the order contradicts itself, or that the fuel is spent.
@@ -57,11 +53,7 @@ impl Order {
     /// Ends the saturation: from now on clocks can be taken back, and only operations near the front are visited.
     pub(crate) fn begin_walk(&mut self) {
         self.clocks.record();
-        self.window = if self.facts.procs <= FEW_PROCESSES {
-            WINDOW_OF_FEW
-        } else {
-            WINDOW_OF_MANY
-        };
+        self.window = WINDOW;
     }
 
     pub(crate) fn burn(&mut self) -> Option<()> {
@@ -96,7 +88,8 @@ impl Order {
         Some(())
     }
 
-    /// Flags the first operation of each process whose clock has this one, and the one after it.
+    /// Flags the first operation of each process whose clock has this one, and the one after it, where this one's clock is
+    /// news to it.
     pub(crate) fn flag_dependents(&mut self, x: u32) -> Option<()> {
         let (owner, place) = self.facts.numbering.spot(x)?;
         for process in 0..self.facts.procs {
@@ -105,17 +98,22 @@ impl Order {
             } else {
                 self.first_after(process, owner, place)?
             };
-            if let Some(y) = self.facts.numbering.number(process, first) {
+            if let Some(y) = self.facts.numbering.number(process, first)
+                && !is_covered(self.clocks.row(x)?, self.clocks.row(y)?)
+            {
                 self.flag(y)?;
             }
         }
         Some(())
     }
 
-    // The place of the first operation of a process, from the front on, that comes after the one at a place of `owner`.
+    // The place of the first operation of a process within the window that comes after the one at a place of `owner`, or
+    // the end of the window.
     fn first_after(&self, process: u32, owner: u32, place: u32) -> Option<u32> {
         let mut low = self.counts.get(process)?;
-        let mut high = self.facts.numbering.count(process)?;
+        let mut high = low
+            .saturating_add(self.window)
+            .min(self.facts.numbering.count(process)?);
         for _ in 0..u32::BITS {
             if low >= high {
                 break;
@@ -154,6 +152,9 @@ impl Order {
     pub(crate) fn absorb(&mut self, x: u32, y: u32) -> Option<bool> {
         let (owner, place) = self.facts.numbering.spot(y)?;
         let mut is_new = self.raise(x, owner, place.checked_add(1)?)?;
+        if is_covered(self.clocks.row(y)?, self.clocks.row(x)?) {
+            return Some(is_new);
+        }
         for process in 0..self.facts.procs {
             let count = self.clocks.get(y, process)?;
             is_new = self.raise(x, process, count)? || is_new;

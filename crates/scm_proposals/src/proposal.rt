@@ -1,31 +1,109 @@
 //! A proposal for a schedule.
+use crate::beginning::Beginning;
 use crate::facts::Facts;
 use crate::order::Order;
 use crate::walk::Walk;
 use scm_sequences::{Lengths, Sequences};
 use std::alloc::Global;
 
-/// How many visits and moves are made for each operation, and for any trace.
-const FUEL: u64 = 192;
+/// How many visits and moves are made at most for each operation that is left.
+const MOST_FUEL: u64 = 192;
+
+/// How many are made for each operation, for each situation of the limit, and for any trace. One costs about as much as
+/// a situation that is searched.
+const FUEL: u64 = 8;
+
+const FUEL_OF_SITUATION: u64 = 2;
 
 const LEAST_FUEL: u64 = 10_000;
+
+/// How many places of an earlier schedule are put together anew when all of it can't be kept: at first so many, then
+/// each time so many times more.
+const SHORTEST_TAIL: usize = 64;
+
+const GROWTH: usize = 4;
+
+/// A trace that a schedule is looked for.
+#[derive(Drop)]
+struct Proposer<'a> {
+    alloc: Global,
+    initials: &'a [Option<u64>],
+    sequences: &'a Sequences,
+    lengths: &'a Lengths,
+    earlier: &'a [u8],
+    limit: usize,
+}
 
 /// A schedule for the trace with these first contents (`None` is an open cell) and these sequences, cut to these
 /// lengths, or `None` where none was found: after so many steps for each operation, where no schedule exists as far as
 /// was seen, and where memory is refused. Nothing is promised of it: `is_legal` tells whether it is one.
+///
+/// `earlier` may be any list of process numbers. As far as it is a legal schedule it is gone on from: a schedule of what
+/// the trace was before, or at a mark, makes the way short. `limit` is how many situations a search would look at
+/// otherwise; a small one makes this give up sooner.
 pub fn propose(
     alloc: Global,
     initials: &[Option<u64>],
     sequences: &Sequences,
     lengths: &Lengths,
+    earlier: &[u8],
+    limit: usize,
 ) -> Option<Vec<u8>> {
-    let facts = Facts::new(alloc, initials, sequences, lengths)?;
-    let fuel = u64::from(facts.ops)
-        .saturating_mul(FUEL)
-        .saturating_add(LEAST_FUEL);
-    let mut order = Order::new(alloc, facts, fuel)?;
-    order.spread()?;
-    let mut walk = Walk::new(alloc, order)?;
-    walk.make_all()?;
-    walk.schedule(alloc)
+    let proposer = Proposer {
+        alloc,
+        initials,
+        sequences,
+        lengths,
+        earlier,
+        limit,
+    };
+    let longest = proposer.beginning(earlier.len())?;
+    let mut tail = 0;
+    for _ in 0..usize::BITS {
+        let kept = longest.len.saturating_sub(tail);
+        if let Some(schedule) = proposer.complete(kept) {
+            return Some(schedule);
+        }
+        if kept == 0 {
+            break;
+        }
+        tail = tail
+            .saturating_mul(GROWTH)
+            .max(longest.left(lengths))
+            .max(SHORTEST_TAIL);
+    }
+    None
+}
+
+impl Proposer<'_> {
+    /// What the first `kept` places of the earlier schedule make, as far as they are legal.
+    fn beginning(&self, kept: usize) -> Option<Beginning> {
+        let mut beginning = Beginning::new(self.alloc, self.initials, self.lengths.procs())?;
+        beginning.follow(self.sequences, self.lengths, self.earlier.get(..kept)?);
+        Some(beginning)
+    }
+
+    /// A schedule that begins with so many places of the earlier one.
+    fn complete(&self, kept: usize) -> Option<Vec<u8>> {
+        let beginning = self.beginning(kept)?;
+        let facts = Facts::new(self.alloc, &beginning, self.sequences, self.lengths)?;
+        let fuel = self.fuel(u64::from(facts.ops));
+        let mut order = Order::new(self.alloc, facts, fuel)?;
+        order.spread()?;
+        let mut walk = Walk::new(self.alloc, order)?;
+        walk.make_all()?;
+        let mut schedule = Vec::new(self.alloc);
+        for place in self.earlier.get(..kept)? {
+            schedule.push(*place).ok()?;
+        }
+        walk.add_to(&mut schedule)?;
+        Some(schedule)
+    }
+    /// The fuel for so many operations.
+    fn fuel(&self, ops: u64) -> u64 {
+        ops.saturating_mul(FUEL)
+            .saturating_add((self.limit as u64).saturating_mul(FUEL_OF_SITUATION))
+            .min(ops.saturating_mul(MOST_FUEL))
+            .saturating_add(LEAST_FUEL)
+    }
 }

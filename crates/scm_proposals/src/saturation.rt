@@ -1,4 +1,5 @@
 //! The consequences of what is known, until there are no more.
+use crate::numbers::is_covered;
 use crate::order::Order;
 
 impl Order {
@@ -99,11 +100,7 @@ impl Order {
         let cell = self.facts.numbering.cell(x)?;
         let mut is_new = false;
         for process in 0..self.facts.procs {
-            let count = self.clocks.get(x, process)?;
-            if let Some(place) = self.facts.writes.before(process, cell, count)
-                && place >= self.counts.get(process)?
-            {
-                let earlier = self.facts.numbering.number(process, place)?;
+            if let Some(earlier) = self.write_before(x, process, cell)? {
                 is_new = self.put_after_readers(x, earlier)? || is_new;
             }
         }
@@ -111,8 +108,24 @@ impl Order {
         Some(self.put_after_readers(x, first)? || is_new)
     }
 
+    // The last write to a cell, of those of a process that come before `x` and aren't made.
+    fn write_before(&self, x: u32, process: u32, cell: u32) -> Option<Option<u32>> {
+        let made = self.counts.get(process)?;
+        let count = self.clocks.get(x, process)?;
+        if count <= made {
+            return Some(None);
+        }
+        match self.facts.writes.before(process, cell, count) {
+            Some(place) if place >= made => Some(self.facts.numbering.number(process, place)),
+            _ => Some(None),
+        }
+    }
+
     /// Puts the write `x` after all that read from `writer`.
     pub(crate) fn put_after_readers(&mut self, x: u32, writer: u32) -> Option<bool> {
+        if is_covered(self.facts.sources.readers.row(writer)?, self.clocks.row(x)?) {
+            return Some(false);
+        }
         let (owner, place) = self.facts.numbering.spot(x)?;
         let is_own = self.facts.source(x) == Some(writer);
         let mut is_new = false;
@@ -135,12 +148,10 @@ impl Order {
         let cell = self.facts.numbering.cell(x)?;
         let mut is_new = false;
         for process in 0..self.facts.procs {
-            let count = self.clocks.get(x, process)?;
-            let Some(place) = self.facts.writes.before(process, cell, count) else {
+            let Some(earlier) = self.write_before(x, process, cell)? else {
                 continue;
             };
-            let earlier = self.facts.numbering.number(process, place)?;
-            if earlier == source || earlier == x || place < self.counts.get(process)? {
+            if earlier == source || earlier == x {
                 continue;
             }
             if source >= self.facts.ops {

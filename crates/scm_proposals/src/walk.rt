@@ -198,12 +198,11 @@ impl Walk {
         self.order.spread()
     }
 
-    /// The processes of what was made, in order.
-    pub(crate) fn schedule(&self, alloc: Global) -> Option<Vec<u8>> {
-        let mut schedule = Vec::new(alloc);
+    /// Adds the processes of what was made, in order, to a schedule.
+    pub(crate) fn add_to(&self, schedule: &mut Vec<u8>) -> Option<()> {
         for made in self.made.iter() {
             schedule.push(u8::try_from(made.process).ok()?).ok()?;
         }
-        Some(schedule)
+        Some(())
     }
 }

@@ -6,10 +6,6 @@ mod limits;
 mod naming;
 mod results;
 mod tally;
-#[cfg(test)]
-mod tally_tests;
-#[cfg(test)]
-mod tests;
 mod totals;
 
 pub use fate::Fate;

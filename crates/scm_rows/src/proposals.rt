@@ -29,6 +29,24 @@ fn sequences_of(rt: &impl Abort, alloc: Global, lists: &[&[Op]]) -> Result<Seque
     Ok(sequences)
 }
 
+/// Whether a schedule that goes on from this earlier one is proposed for the trace, and is legal.
+fn has_legal_proposal_from(
+    rt: &impl Abort,
+    alloc: Global,
+    initials: &[Option<u64>],
+    sequences: &Sequences,
+    earlier: &[u8],
+) -> bool {
+    let lengths = sequences.lengths();
+    assert!(rt; initials.len() <= MOST_CELLS);
+    assert!(rt; lengths.within(&sequences.lengths()));
+    assert!(rt; sequences.names_cells_below(initials.len()));
+    match propose(alloc, initials, sequences, &lengths, earlier, 10_000) {
+        Some(places) => is_legal(initials, sequences, &lengths, &places),
+        None => false,
+    }
+}
+
 /// Whether a schedule is proposed for the trace, and is legal.
 fn has_legal_proposal(
     rt: &impl Abort,
@@ -36,33 +54,80 @@ fn has_legal_proposal(
     initials: &[Option<u64>],
     sequences: &Sequences,
 ) -> bool {
-    let lengths = sequences.lengths();
-    assert!(rt; initials.len() <= MOST_CELLS);
-    assert!(rt; lengths.within(&sequences.lengths()));
-    assert!(rt; sequences.names_cells_below(initials.len()));
-    match propose(alloc, initials, sequences, &lengths) {
-        Some(places) => is_legal(initials, sequences, &lengths, &places),
-        None => false,
-    }
+    has_legal_proposal_from(rt, alloc, initials, sequences, &[])
 }
 
 const ZEROS: [Option<u64>; 2] = [Some(0), Some(0)];
 
-/// Store buffering where one load comes late, and where both come early, which has no schedule.
+/// The rows of the litmus gallery that have a schedule.
 #[test]
-fn store_buffering(rt: HostRuntime) -> Result<(), Fail> {
-    let seen = sequences_of(
-        &rt,
-        rt.alloc(),
-        &[&[write(0, 1), read(1, 0)], &[write(1, 1), read(0, 1)]],
-    )?;
-    assert!(rt; has_legal_proposal(&rt, rt.alloc(), &ZEROS, &seen));
+fn litmus_gallery(rt: HostRuntime) -> Result<(), Fail> {
+    let message_passing: [&[Op]; 2] = [&[write(0, 42), write(1, 1)], &[read(1, 1), read(0, 42)]];
+    let load_buffering: [&[Op]; 2] = [&[read(0, 0), write(1, 1)], &[read(1, 1), write(0, 1)]];
+    let store_buffering: [&[Op]; 2] = [&[write(0, 1), read(1, 0)], &[write(1, 1), read(0, 1)]];
+    let coherence: [&[Op]; 2] = [&[write(0, 1)], &[read(0, 0), read(0, 1)]];
+    let orders: [&[Op]; 3] = [&[write(0, 1)], &[write(0, 2)], &[read(0, 1), read(0, 2)]];
+    let causality: [&[Op]; 3] = [
+        &[write(0, 1)],
+        &[read(0, 1), write(1, 1)],
+        &[read(1, 1), read(0, 1)],
+    ];
+    let independent_reads: [&[Op]; 4] = [
+        &[write(0, 1)],
+        &[write(1, 1)],
+        &[read(0, 1), read(1, 0)],
+        &[read(1, 1), read(0, 1)],
+    ];
+    let two_plus_two_writes: [&[Op]; 4] = [
+        &[write(0, 1), write(1, 2)],
+        &[write(1, 1), write(0, 2)],
+        &[read(0, 1), read(1, 0)],
+        &[read(1, 2), read(1, 1), read(0, 1)],
+    ];
+    let lost_update: [&[Op]; 2] = [&[swap(0, 0, 1)], &[swap(0, 1, 2)]];
+    let rows: [&[&[Op]]; 9] = [
+        &message_passing,
+        &load_buffering,
+        &store_buffering,
+        &coherence,
+        &orders,
+        &causality,
+        &independent_reads,
+        &two_plus_two_writes,
+        &lost_update,
+    ];
+    for row in rows {
+        let sequences = sequences_of(&rt, rt.alloc(), row)?;
+        assert!(rt; has_legal_proposal(&rt, rt.alloc(), &ZEROS, &sequences));
+    }
+    Ok(())
+}
+
+/// Store buffering where both loads come early has no schedule.
+#[test]
+fn forbidden_store_buffering(rt: HostRuntime) -> Result<(), Fail> {
     let unseen = sequences_of(
         &rt,
         rt.alloc(),
         &[&[write(0, 1), read(1, 0)], &[write(1, 1), read(0, 0)]],
     )?;
     assert!(rt; !has_legal_proposal(&rt, rt.alloc(), &ZEROS, &unseen));
+    Ok(())
+}
+
+/// Earlier schedules to go on from: a beginning, one whose last write came too early, one that isn't legal, and one of
+/// processes that aren't there.
+#[test]
+fn earlier_schedules(rt: HostRuntime) -> Result<(), Fail> {
+    let sequences = sequences_of(
+        &rt,
+        rt.alloc(),
+        &[&[write(0, 1), write(0, 2)], &[read(0, 1), read(0, 2)]],
+    )?;
+    let earlier: [&[u8]; 5] = [&[0, 1], &[0, 0], &[1, 0], &[7, 255], &[0, 1, 0, 1, 0]];
+    for places in earlier {
+        assert!(rt; has_legal_proposal_from(&rt, rt.alloc(), &ZEROS, &sequences, places));
+    }
     Ok(())
 }
 

@@ -7,8 +7,6 @@ mod gathering;
 mod legal;
 mod links;
 mod refuting;
-#[cfg(test)]
-mod refuting_tests;
 mod walk;
 
 pub use fixing::fixed;
@@ -16,6 +14,3 @@ pub use gathering::refutation;
 pub use legal::is_legal;
 pub use links::schedule;
 pub use refuting::refutes;
-
-#[cfg(test)]
-mod tests;

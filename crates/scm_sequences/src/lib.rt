@@ -1,8 +1,6 @@
 //! Operations, the sequences of a trace, their lengths, the refusals and the limits of the product.
 #![tactic(auto)]
 
-#[cfg(test)]
-mod cut_tests;
 mod laws;
 mod lengths;
 mod limits;
@@ -10,8 +8,6 @@ mod no_memory;
 mod op;
 mod refusal;
 mod sequences;
-#[cfg(test)]
-mod tests;
 
 pub use laws::{restriction, unset_cells};
 pub use lengths::Lengths;

@@ -1,10 +1,10 @@
 -- The first word of a line, and the words behind it.
-use Rattle.std.proofs.Common.{◌≡◌, ℕ, zero, suc, ◌<◌, ◌≤◌, ◌+◌, ◌-◌, List, [], ◌∷◌, length, take, drop, drop_of_length-le, drop-cons, refl, sym, ap, ◌∙◌, arith, Option, None, Some, Bool, true, false, not, nat_lt, filter, get_or, get_or-drop, ap₂, true≢false, lt-ltb, ltb-false, if◌then◌else◌}
+use Rattle.std.proofs.Common.{◌≡◌, ℕ, zero, suc, ◌<◌, ◌≤◌, ◌+◌, ◌-◌, List, [], ◌∷◌, length, take, drop, drop_of_length-le, refl, sym, ap, ◌∙◌, arith, Option, None, Some, Bool, true, false, not, nat_lt, filter, get_or, get_or-drop, ap₂, true≢false, lt-ltb, ltb-false, if◌then◌else◌}
 use Rattle.std.proofs.lemmas.List.{take_all, length-take, length-drop}
 use Rattle.std.proofs.lemmas.List.Splits.{slice_split-cons_yes, slice_split-cons_no}
-use Rattle.std.proofs.lemmas.List.Sums.{fails_before_first, passes_at_first}
+use Rattle.std.proofs.lemmas.List.Sums.{fails_before_first}
 use Rattle.std.proofs.lemmas.List.Quantifiers.{position-Some}
-use Rattle.std.specs.List.{slice_split, onto_first, position, position_or_len}
+use Rattle.std.specs.List.{onto_first, position, position_or_len}
 use Rattle.std.specs.Option.{unwrap_or}
 use Rattle.scm_sessions.specs.Words.{is_blank, fields_of, words_of}
 
@@ -60,7 +60,7 @@ found_none true n e = absurd (cc)
 found_none false n e = refl
 
 -- nothing is found: each element fails
-position-none : (test : ℕ → Bool) (bytes : List ℕ) → position test bytes ≡ None → length bytes ≤ position_or_len test bytes
+pub position-none : (test : ℕ → Bool) (bytes : List ℕ) → position test bytes ≡ None → length bytes ≤ position_or_len test bytes
 position-none test bytes none = ltb-false (position_or_len test bytes) (length bytes) (found_none _ _ none)
 
 -- a list of blanks has no word

@@ -1,5 +1,5 @@
 //! The lines of a script, one at a time.
-ghost use Rattle.std.specs.Prelude.{◌≡◌, ◌≤◌, length, vec_capacity, vec_len};
+ghost use Rattle.std.specs.Prelude.{◌≡◌, ◌==◌, ◌<◌, ◌≤◌, length, position, IfSome, vec_capacity, vec_len};
 ghost use Rattle.scm_sequences.specs.declared.limits.TheConstants.{LONGEST_LINE};
 ghost use Rattle.scm_sessions.specs.declared.reading.TheConstants.{CHUNK};
 
@@ -36,9 +36,18 @@ pub(crate) struct LineReader {
     ghost room: { LONGEST_LINE ≤ vec_capacity line },
 }
 
+/// Where the first line feed stands.
+fn first_feed(bytes: &[u8]) -> Option<usize>
+    ensures place { result ≡ position (λ b. b == 10) bytes.now }
+    ensures within { IfSome result (λ place. place < length bytes.now) }
+{
+    bytes.iter().position(|&byte| byte == b'\n')
+}
+
 impl LineReader {
-    ghost use Rattle.std.specs.Prelude.{◌≡◌, ◌<◌, ℕ, List, ◌∷◌, ◌++◌, [], length, true, false, IsSome, IfOk, OnErr, MatchOption, MatchResult, option_copied};
+    ghost use Rattle.std.specs.Prelude.{◌≡◌, ◌<◌, ◌≤◌, ◌+◌, ◌||◌, ℕ, List, ◌++◌, [], length, take, drop, nat_lt, true, false, IfOk, OnErr, MatchBool, MatchResult, option_copied};
     ghost use Rattle.std.specs.Io.KnownBytes.{Keeps, Consumes, IsAtEnd};
+    ghost use Rattle.scm_sequences.specs.declared.limits.TheConstants.{LONGEST_LINE};
     ghost use Rattle.scm_sessions.specs.Lines.{line_given, HasNoFeed};
     ghost use Rattle.scm_sessions.specs.Ports.{inner_of, has_failed};
     ghost use Rattle.scm_sessions.specs.Reading.{unread_of, left_of, budget_of, held_line, TakesLine};
@@ -56,21 +65,25 @@ impl LineReader {
         })
     }
 
-    /// Whether the next line can be taken up to its line feed without a read.
-    pub(crate) fn holds_line(&self) -> bool {
-        self.chunk[self.start..self.end].contains(&b'\n')
+    /// The bytes at hand: those that were read and not yet taken.
+    fn unread(&self) -> &[u8]
+        ensures { result.now ≡ unread_of self.now }
+    {
+        &self.chunk[self.start..self.end]
     }
 
-    /// The next byte of the script, or `None` at its end. Asks the port only where no byte is left of its last read.
-    fn next_byte<R: Read>(&mut self, port: &mut Port<R>) -> Result<Option<u8>, ReadFault>
-        ensures bytes { MatchResult result
-            (λ next. MatchOption next
-            (IsAtEnd (left_of R.remaining self.new port.new)
-            × Keeps (left_of R.remaining self.old port.old) (left_of R.remaining self.new port.new))
-            (λ byte. Consumes (left_of R.remaining self.old port.old) (left_of R.remaining self.new port.new) (byte ∷ [])))
-            (λ _. (unread_of self.new ≡ [])
-            × Keeps (left_of R.remaining self.old port.old) (left_of R.remaining self.new port.new)) }
-        ensures fewer { IfOk result (λ next. IsSome next → budget_of self.new port.new < budget_of self.old port.old) }
+    /// Whether the next line can be taken up to its line feed without a read.
+    pub(crate) fn holds_line(&self) -> bool {
+        first_feed(self.unread()).is_some()
+    }
+
+    /// Whether a byte of the script is at hand. Asks the port only where none is left of its last read.
+    fn has_bytes<R: Read>(&mut self, port: &mut Port<R>) -> Result<bool, ReadFault>
+        ensures some { IfOk result (λ some. MatchBool some (0 < length (unread_of self.new))
+            (IsAtEnd (left_of R.remaining self.new port.new))) }
+        ensures none { OnErr result (unread_of self.new ≡ []) }
+        ensures kept { Keeps (left_of R.remaining self.old port.old) (left_of R.remaining self.new port.new) }
+        ensures budget { budget_of self.new port.new ≤ budget_of self.old port.old }
         ensures line { self.new.line ≡ self.old.line }
         ensures is_long { self.new.is_long ≡ self.old.is_long }
         ensures failed { MatchResult result (λ _. has_failed port.new ≡ has_failed port.old) (λ _. has_failed port.new ≡ true) }
@@ -79,13 +92,37 @@ impl LineReader {
             let filled = port.read(&mut self.chunk)?;
             self.start = 0;
             self.end = filled;
-            if filled == 0 {
-                return Ok(None);
-            }
         }
-        let byte = self.chunk[self.start];
+        Ok(self.start < self.end)
+    }
+
+    /// Takes so many of the bytes at hand into the line, as far as it has room for them.
+    fn take_bytes(&mut self, count: usize)
+        requires within { count ≤ length (unread_of self.old) }
+        requires room { length self.old.line.items ≤ LONGEST_LINE }
+        ensures unread { unread_of self.new ≡ drop count (unread_of self.old) }
+        ensures line { self.new.line.items ≡ take LONGEST_LINE (self.old.line.items ++ take count (unread_of self.old)) }
+        ensures is_long { self.new.is_long ≡ self.old.is_long || nat_lt LONGEST_LINE (length self.old.line.items + count) }
+        ensures start { self.new.start ≡ self.old.start + count }
+        ensures end { self.new.end ≡ self.old.end }
+    {
+        let unread = &self.chunk[self.start..self.end];
+        let kept = count.min(LONGEST_LINE - self.line.len());
+        self.line.extend_from_slice(&unread[..kept]).unwrap();
+        self.is_long |= kept < count;
+        self.start += count;
+    }
+
+    /// Leaves one of the bytes at hand out.
+    fn skip_byte(&mut self)
+        requires { 0 < length (unread_of self.old) }
+        ensures unread { unread_of self.new ≡ drop 1 (unread_of self.old) }
+        ensures line { self.new.line ≡ self.old.line }
+        ensures is_long { self.new.is_long ≡ self.old.is_long }
+        ensures start { self.new.start ≡ self.old.start + 1 }
+        ensures end { self.new.end ≡ self.old.end }
+    {
         self.start += 1;
-        Ok(Some(byte))
     }
 
     /// Takes the next line of the script and holds it. A line that is longer than `LONGEST_LINE` bytes is read to
@@ -100,15 +137,13 @@ impl LineReader {
     {
         self.line.clear();
         self.is_long = false;
-        while let Some(byte) = self.next_byte(port)? {
-            if byte == b'\n' {
+        while self.has_bytes(port)? {
+            if let Some(place) = first_feed(self.unread()) {
+                self.take_bytes(place);
+                self.skip_byte();
                 return Ok(Cut::Whole);
             }
-            if self.line.len() < LONGEST_LINE {
-                self.line.push(byte).unwrap();
-            } else {
-                self.is_long = true;
-            }
+            self.take_bytes(self.end - self.start);
         }
         Ok(if self.line.is_empty() {
             Cut::End

@@ -1,6 +1,7 @@
 //! Questions about an open trace.
-ghost use Rattle.std.specs.Prelude.{◌≡◌, ◌+◌, ◌<◌, ◌^◌, length, None, IfOk, IfErr};
+ghost use Rattle.std.specs.Prelude.{◌≡◌, ◌+◌, ◌<◌, ◌^◌, length, None, Ok, Err, IfOk, IfErr, MatchResult};
 ghost use Rattle.scm_sequences.specs.Refusals.{Refuses};
+ghost use Rattle.scm_book.specs.Asking.{lengths_asked, AsksFor};
 ghost use Rattle.scm_book.specs.Calls.{reply_data, answer_data};
 ghost use Rattle.scm_book.specs.Refusals.{question_cause};
 ghost use Rattle.scm_book.specs.Sets.{most_steps, SearchesAt};
@@ -9,10 +10,25 @@ ghost use Rattle.scm_book.specs.Steps.{Asks, AsksWhy};
 
 use super::OpenTrace;
 use crate::Reply;
-use crate::question::{explanation, verdict};
+use crate::question::Question;
 use scm_frontier::Steps;
-use scm_sequences::Refusal;
+use scm_marks::Marks;
+use scm_sequences::{Lengths, Refusal};
 use std::alloc::Global;
+
+/// The lengths that a question is about: the present ones, or those of a mark. Refused `NoSuchMark`.
+fn lengths_at<'a>(
+    marks: &'a Marks,
+    present: &'a Lengths,
+    mark: Option<u64>,
+) -> Result<&'a Lengths, Refusal>
+    ensures { MatchResult result (λ lengths. lengths_asked marks.now present.now mark ≡ Ok lengths.now) (λ refusal. lengths_asked marks.now present.now mark ≡ Err refusal) }
+{
+    match mark {
+        Some(mark) => marks.get(mark),
+        None => Ok(present),
+    }
+}
 
 impl OpenTrace {
     /// Whether the trace is consistent under its budget, as it is or as it stood at a mark. Refused `NoSuchMark`.
@@ -28,29 +44,7 @@ impl OpenTrace {
         ensures same { self.new.state ≡ self.old.state }
         ensures set { SearchesAt self.old.state mark (answer_data result) steps.old steps.new self.old.set self.new.set }
     {
-        let limit = self.budget.limit();
-        let Some(mark) = mark else {
-            let lengths = self.sequences.lengths();
-            return Ok(verdict(
-                alloc,
-                &self.cells,
-                &mut self.reach,
-                &self.sequences,
-                &lengths,
-                limit,
-                steps,
-            )?);
-        };
-        let lengths = self.marks.get(mark)?;
-        Ok(verdict(
-            alloc,
-            &self.cells,
-            &mut self.reach,
-            &self.sequences,
-            lengths,
-            limit,
-            steps,
-        )?)
+        self.question(alloc, mark, false, steps)
     }
 
     /// The same, with a refutation where the trace is not consistent. Refused `NoSuchMark`.
@@ -66,29 +60,37 @@ impl OpenTrace {
         ensures same { self.new.state ≡ self.old.state }
         ensures set { SearchesAt self.old.state mark (answer_data result) steps.old steps.new self.old.set self.new.set }
     {
-        let limit = self.budget.limit();
-        let Some(mark) = mark else {
-            let lengths = self.sequences.lengths();
-            return Ok(explanation(
-                alloc,
-                &self.cells,
-                &mut self.reach,
-                &self.sequences,
-                &lengths,
-                limit,
-                steps,
-            )?);
-        };
-        let lengths = self.marks.get(mark)?;
-        Ok(explanation(
+        self.question(alloc, mark, true, steps)
+    }
+
+    /// Either of them.
+    fn question(
+        &mut self,
+        alloc: Global,
+        mark: Option<u64>,
+        explains: bool,
+        steps: &mut Steps,
+    ) -> Result<Reply, Refusal>
+        requires room { steps.old + most_steps self.old.state < 2 ^ 64 }
+        ensures ok { IfOk result (λ reply. (question_cause self.old.state mark ≡ None) × AsksFor explains self.old.state mark (reply_data reply)) }
+        ensures err { IfErr result (Refuses (question_cause self.old.state mark)) }
+        ensures same { self.new.state ≡ self.old.state }
+        ensures set { SearchesAt self.old.state mark (answer_data result) steps.old steps.new self.old.set self.new.set }
+    {
+        let present = self.sequences.lengths();
+        let lengths = lengths_at(&self.marks, &present, mark)?;
+        let question = Question {
             alloc,
-            &self.cells,
-            &mut self.reach,
-            &self.sequences,
+            cells: &self.cells,
+            sequences: &self.sequences,
             lengths,
-            limit,
-            steps,
-        )?)
+            limit: self.budget.limit(),
+            explains,
+            earlier: &self.earlier,
+        };
+        let reply = question.answer(&mut self.reach, steps)?;
+        self.earlier.learn(&reply, lengths);
+        Ok(reply)
     }
 
     /// The most steps that a question takes.

@@ -1,44 +1,38 @@
-use Rattle.std.proofs.Common.{◌≡◌, ◌<◌, ◌≤◌, length, rules, refl, ◌++◌, ◌∷◌, []}
-use Rattle.scm_sequences.specs.declared.limits.TheConstants.{LONGEST_LINE}
-use Rattle.scm_sessions.proofs.Gathering.{HasGathered-same, HasGathered-more, HasGathered-over, TakesLine-whole, TakesLine-last}
+use Rattle.std.proofs.Common.{◌≡◌, ◌<◌, ◌-◌, length, drop, position, ◌==◌, rules, sym, ap, ◌∙◌}
+use Rattle.scm_sessions.specs.Reading.{unread_of}
+use Rattle.scm_sessions.proofs.Gathering.{unread_length, taken_within, HasGathered-same, HasGathered-all, TakesLine-feed, TakesLine-last}
 use Rattle.scm_sessions.proofs.reading.LineReader.next_line.Goals as goal
 
-pub returns-then-byte-eq10-clause-ok : goal.returns-then-byte-eq10-clause-ok
-returns-then-byte-eq10-clause-ok g c =
-    let same : c.next_byte.new.self.line.items ≡ c.loop-byte.self.line.items = cc in
-    let gathered = HasGathered-same c.loop-byte.invariant.gathered same c.next_byte.ensures.is_long in
-    let came = rw c.in-Some.is at c.in_ok-byte.ensures.bytes in
-    TakesLine-whole _ gathered (rw c.if-byte-eq10.true at came)
+pub returns-in-Some-clause-ok : goal.returns-in-Some-clause-ok
+returns-in-Some-clause-ok g c =
+    let same : c.has_bytes.new.self.line.items ≡ c.loop-self.self.line.items = cc in
+    let gathered = HasGathered-same c.loop-self.invariant.gathered same c.has_bytes.ensures.is_long in
+    let now : c.skip_byte.new.self.line.items ≡ c.take_bytes.new.self.line.items = cc in
+    TakesLine-feed _ (unread_of c.has_bytes.new.self) (unread_of c.skip_byte.new.self) c.skip_byte.new.self.line.items
+    c.skip_byte.new.self.is_long c.in-Some.place gathered c.has_bytes.ensures.kept (sym (c.first_feed.ensures.place ∙ ap (position (λ b. b == 10)) c.unread.ensures) ∙ c.in-Some.is)
+    (now ∙ c.take_bytes.ensures.line) (c.skip_byte.ensures.is_long ∙ c.take_bytes.ensures.is_long)
+    (c.skip_byte.ensures.unread ∙ ap (drop 1) c.take_bytes.ensures.unread)
 
-pub loop-byte-preserved-then-len-lt-LONGEST_LINE : goal.loop-byte-preserved-then-len-lt-LONGEST_LINE
-loop-byte-preserved-then-len-lt-LONGEST_LINE g c = record {
+pub loop-self-preserved : goal.loop-self-preserved
+loop-self-preserved g c = record {
   gathered =
-      let same : c.next_byte.new.self.line.items ≡ c.loop-byte.self.line.items = cc in
-      let gathered = HasGathered-same c.loop-byte.invariant.gathered same c.next_byte.ensures.is_long in
-      let came = rw c.in-Some.is at c.in_ok-byte.ensures.bytes in
-      let below : length c.next_byte.new.self.line.items < LONGEST_LINE = search rules in
-      let pushed : c.push.new.self.items ≡ c.next_byte.new.self.line.items ++ c.in-Some.byte ∷ [] = search rules in
-      HasGathered-same (HasGathered-more _ gathered came c.if-byte-eq10.false below) pushed refl;
-  budget = search rules;
-  failed = search rules;
-}
-
-pub loop-byte-preserved : goal.loop-byte-preserved
-loop-byte-preserved g c = record {
-  gathered =
-      let same : c.next_byte.new.self.line.items ≡ c.loop-byte.self.line.items = cc in
-      let gathered = HasGathered-same c.loop-byte.invariant.gathered same c.next_byte.ensures.is_long in
-      let came = rw c.in-Some.is at c.in_ok-byte.ensures.bytes in
-      let above : LONGEST_LINE ≤ length c.next_byte.new.self.line.items = search rules in
-      HasGathered-over _ gathered came c.if-byte-eq10.false above;
+      let same : c.has_bytes.new.self.line.items ≡ c.loop-self.self.line.items = cc in
+      let gathered = HasGathered-same c.loop-self.invariant.gathered same c.has_bytes.ensures.is_long in
+      let all : c.has_bytes.new.self.end - c.has_bytes.new.self.start ≡ length (unread_of c.has_bytes.new.self) =
+      unread_length c.has_bytes.new.self.start c.has_bytes.new.self.end c.has_bytes.new.self.chunk.items (search rules) in
+      HasGathered-all _ (unread_of c.has_bytes.new.self) (unread_of c.take_bytes-in-loop-self.new.self)
+      c.take_bytes-in-loop-self.new.self.line.items c.take_bytes-in-loop-self.new.self.is_long _ gathered c.has_bytes.ensures.kept
+      (sym (c.first_feed.ensures.place ∙ ap (position (λ b. b == 10)) c.unread.ensures) ∙ c.in_default.is) all c.take_bytes-in-loop-self.ensures.line
+      c.take_bytes-in-loop-self.ensures.is_long c.take_bytes-in-loop-self.ensures.unread;
+  room = taken_within _ _ c.take_bytes-in-loop-self.ensures.line;
   budget = search rules;
   failed = search rules;
 }
 
 pub returns-else-is_empty-clause-ok : goal.returns-else-is_empty-clause-ok
 returns-else-is_empty-clause-ok g c =
-    let same : c.next_byte.new.self.line.items ≡ c.loop-byte.self.line.items = cc in
-    let gathered = HasGathered-same c.loop-byte.invariant.gathered same c.next_byte.ensures.is_long in
-    let end = rw c.in_default.is at c.in_ok-byte.ensures.bytes in
-    let some : 0 < length c.next_byte.new.self.line.items = search rules in
-    TakesLine-last _ gathered end.1 end.0 some
+    let same : c.has_bytes.new.self.line.items ≡ c.loop-self.self.line.items = cc in
+    let gathered = HasGathered-same c.loop-self.invariant.gathered same c.has_bytes.ensures.is_long in
+    let some : 0 < length c.has_bytes.new.self.line.items = search rules in
+    let ended = rw c.if-branch.false at c.in_ok-has_bytes.ensures.some in
+    TakesLine-last _ gathered c.has_bytes.ensures.kept ended some

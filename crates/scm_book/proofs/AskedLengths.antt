@@ -1,0 +1,87 @@
+-- The lengths that a question is about: the present ones, or those of a mark.
+use Rattle.std.proofs.Common.{◌≡◌, ℕ, ◌+◌, ◌*◌, ◌<◌, ◌^◌, List, length, Bool, true, false, Option, None, Some, Result, Ok, Err, IsOkAnd, MatchResult, refl, sym, ap, ap₂, ◌∙◌, subst, arith}
+use Rattle.scm_sequences.specs.declared.refusal.Refusal.{Refusal}
+use Rattle.scm_sequences.specs.Lengths.{IsWithin}
+use Rattle.scm_sequences.specs.Ops.{NamesCellsBelow}
+use Rattle.scm_sequences.specs.LengthLaws.{IsWithin-reflexive}
+use Rattle.scm_sequences.specs.Sequences.{lengths_of}
+use Rattle.scm_sequences.specs.SequenceLaws.{length-lengths_of}
+use Rattle.scm_sequences.specs.Traces.{Trace, cut_to}
+use Rattle.scm_sequences.specs.CutLaws.{cut_to-whole}
+use Rattle.scm_reach.specs.Kept.{Kept}
+use Rattle.scm_book.specs.Asking.{CanAsk, IsAsWanted, lengths_asked, AsksFor}
+use Rattle.scm_book.specs.Calls.{ReplyData}
+use Rattle.scm_book.specs.Machine.{TraceState, trace_in}
+use Rattle.scm_book.specs.Refusals.{refusal_in, question_cause}
+use Rattle.scm_book.specs.Sets.{asked_lengths, most_steps, Searches, SearchesAt}
+use Rattle.scm_book.specs.Sound.{IsSoundTrace, IsKeptFor}
+use Rattle.scm_book.specs.Steps.{IsAbout}
+use Rattle.scm_book.specs.Verdicts.{Fits}
+use Rattle.scm_book.proofs.Keeping.{kept_of}
+use Rattle.scm_book.proofs.Questions.{names_of}
+use Rattle.scm_book.proofs.Sounding.{IsWithin-mark}
+
+asked_as : (state : TraceState) (mark : Option ℕ) → asked_lengths state mark ≡ lengths_asked state.marks (lengths_of state.sequences) mark
+asked_as state None = refl
+asked_as state (Some m) = refl
+
+pub asked : (state : TraceState) (mark : Option ℕ) (present : List ℕ) (r : Result (List ℕ) Refusal) → present ≡ lengths_of state.sequences → lengths_asked state.marks present mark ≡ r → asked_lengths state mark ≡ r
+asked state mark present r whole is = asked_as state mark ∙ ap (λ l. lengths_asked state.marks l mark) (sym whole) ∙ is
+
+-- they are found exactly where there is no cause of refusal
+pub cause_none : (state : TraceState) (mark : Option ℕ) (lengths : List ℕ) → asked_lengths state mark ≡ Ok lengths → question_cause state mark ≡ None
+cause_none state None lengths is = refl
+cause_none state (Some m) lengths is = ap refusal_in is
+
+pub cause_some : (state : TraceState) (mark : Option ℕ) (refusal : Refusal) → asked_lengths state mark ≡ Err refusal → question_cause state mark ≡ Some refusal
+cause_some state None refusal is = cc
+cause_some state (Some m) refusal is = ap refusal_in is
+
+present_as : (state : TraceState) (lengths : List ℕ) → asked_lengths state None ≡ Ok lengths → lengths_of state.sequences ≡ lengths
+present_as state lengths is = cc
+
+pub IsWithin-asked : (state : TraceState) (mark : Option ℕ) (lengths : List ℕ) → IsSoundTrace state → asked_lengths state mark ≡ Ok lengths → IsWithin lengths (lengths_of state.sequences)
+IsWithin-asked state None lengths sound is = subst (λ l. IsWithin l (lengths_of state.sequences)) (present_as state lengths is) (IsWithin-reflexive (lengths_of state.sequences))
+IsWithin-asked state (Some m) lengths sound is = IsWithin-mark state m lengths sound is
+
+-- what holds of the trace cut to them holds of the trace that the question is about
+about_asked : (state : TraceState) (mark : Option ℕ) (P : Trace → Type 0) (lengths : List ℕ) → asked_lengths state mark ≡ Ok lengths → P (cut_to (trace_in state) lengths) → IsAbout state mark P
+about_asked state None P lengths is h = subst P (cut_to-whole (trace_in state)) (subst (λ l. P (cut_to (trace_in state) l)) (sym (present_as state lengths is)) h)
+about_asked state (Some m) P lengths is h = subst (λ r. IsOkAnd r (λ l. P (cut_to (trace_in state) l))) (sym is) h
+
+-- ---- a question about a sound trace, beside which a set is kept
+
+module _ (state : TraceState) (mark : Option ℕ) (limit made : ℕ) (lengths : List ℕ) (set : Kept) (budget : limit ≡ state.budget) (is : asked_lengths state mark ≡ Ok lengths) where
+  -- the set may be asked
+  pub can_ask : IsSoundTrace state → IsKeptFor state set → made + most_steps state < 2 ^ 64 → CanAsk state.cells state.sequences lengths limit set made
+  can_ask sound for room =
+      let within : IsWithin lengths (lengths_of state.sequences) = IsWithin-asked state mark lengths sound is in
+      let most : limit * length lengths ≡ state.budget * length state.sequences = ap₂ (λ a b. a * b) budget (within.procs ∙ length-lengths_of state.sequences) in
+      record {
+        initials = for.initials;
+        within = within;
+        names = subst (λ initials. NamesCellsBelow (length initials) state.sequences) (sym for.initials) (names_of state.cells state.sequences sound.names);
+        kept = kept_of state set for;
+        few = omega (arith, for.few, budget);
+        room = omega (arith, most, room);
+      }
+
+  -- and its answer is that of the question
+  pub asks_for : (explains : Bool) (reply : ReplyData) → Fits state.cells (cut_to (trace_in state) lengths) limit reply → IsAsWanted explains reply → AsksFor explains state mark reply
+  asks_for explains reply fits wanted = by explains wanted where
+    about : IsAbout state mark (λ t. Fits state.cells t state.budget reply)
+    about = about_asked state mark (λ t. Fits state.cells t state.budget reply) lengths is (subst (λ n. Fits state.cells (cut_to (trace_in state) lengths) n reply) budget fits)
+
+    by : (wish : Bool) → IsAsWanted wish reply → AsksFor wish state mark reply
+    by true wanted = (about, wanted)
+    by false wanted = (about, wanted)
+
+-- ---- what it makes of the set
+
+pub searches_found : (state : TraceState) (mark : Option ℕ) (reply : ReplyData) (before after : ℕ) (old new : Kept) (lengths : List ℕ) → asked_lengths state mark ≡ Ok lengths → Searches state reply before after lengths old new → SearchesAt state mark reply before after old new
+searches_found state mark reply before after old new lengths is searches =
+    subst (λ r. MatchResult r (λ l. Searches state reply before after l old new) (λ refusal. (new ≡ old) × (after ≡ before))) (sym is) searches
+
+pub searches_refused : (state : TraceState) (mark : Option ℕ) (reply : ReplyData) (made : ℕ) (set : Kept) (refusal : Refusal) → asked_lengths state mark ≡ Err refusal → SearchesAt state mark reply made made set set
+searches_refused state mark reply made set refusal is =
+    subst (λ r. MatchResult r (λ l. Searches state reply made made l set set) (λ refusal. (set ≡ set) × (made ≡ made))) (sym is) (refl, refl)

@@ -1,0 +1,48 @@
+-- What the book's own clauses say of a question.
+use Rattle.std.specs.Prelude.{ℕ, ◌≡◌, ◌≢◌, ◌+◌, ◌*◌, ◌<◌, ◌≤◌, ◌^◌, List, length, Option, None, Some, Bool, true, false, Result, Ok}
+use Rattle.scm_sequences.specs.declared.refusal.Refusal.{Refusal}
+use Rattle.scm_sequences.specs.declared.op.Op.{Op}
+use Rattle.scm_sequences.specs.Ops.{NamesCellsBelow}
+use Rattle.scm_sequences.specs.Lengths.{IsWithin}
+use Rattle.scm_sequences.specs.Sequences.{lengths_of}
+use Rattle.scm_sequences.specs.Traces.{trace_of}
+use Rattle.scm_cells.specs.CellLists.{Declared, initials_of}
+use Rattle.scm_marks.specs.MarkLists.{mark_at}
+use Rattle.scm_frontier.specs.Situated.{Situated}
+use Rattle.scm_reach.specs.Kept.{Kept, IsKept}
+use Rattle.scm_reach.specs.Work.{KeepsWork}
+use Rattle.scm_book.specs.Calls.{ReplyData, because, inconsistent}
+use Rattle.scm_book.specs.Machine.{TraceState}
+use Rattle.scm_book.specs.Steps.{Asks, AsksWhy}
+
+-- the set may be asked: it is kept for the trace of these cells and sequences, with no more members than the limit, the
+-- lengths lie within the trace, and a counter that stands here has room
+pub record CanAsk (cells : List Declared) (sequences : List (List Op)) (lengths : List ℕ) (limit : ℕ) (set : Kept) (made : ℕ) : Type 0 where
+  pub initials : set.initials ≡ initials_of cells
+  pub within : IsWithin lengths (lengths_of sequences)
+  pub names : NamesCellsBelow (length set.initials) sequences
+  pub kept : IsKept (trace_of set.initials sequences) set.members
+  pub few : length set.members ≤ limit
+  pub room : made + limit * length lengths + 2 < 2 ^ 64
+
+-- it was asked, while a counter of steps went from before to after
+pub record WasAsked (sequences : List (List Op)) (lengths : List ℕ) (limit : ℕ) (old : Kept) (before : ℕ) (new : Kept) (after : ℕ) : Type 0 where
+  pub initials : new.initials ≡ old.initials
+  pub kept : IsKept (trace_of old.initials sequences) new.members
+  pub few : length new.members ≤ limit
+  pub work : KeepsWork (record { sequences = sequences; lengths = lengths }) limit old.members before new.members after
+
+-- where there is no schedule: a refutation where one is wanted, else the word alone
+abbrev pub IsAsWanted : Bool → ReplyData → Type 0
+IsAsWanted true reply = reply ≢ inconsistent
+IsAsWanted false reply = (situations : List Situated) → reply ≢ because situations
+
+-- the lengths at the mark, or with no mark the present ones
+abbrev pub lengths_asked : List (List ℕ) → List ℕ → Option ℕ → Result (List ℕ) Refusal
+lengths_asked marks present None = Ok present
+lengths_asked marks present (Some m) = mark_at marks m
+
+-- what `ask` or `why` replies, as it is wanted
+abbrev pub AsksFor : Bool → TraceState → Option ℕ → ReplyData → Type 0
+AsksFor true state mark reply = AsksWhy state mark reply
+AsksFor false state mark reply = Asks state mark reply

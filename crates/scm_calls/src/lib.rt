@@ -1,0 +1,58 @@
+//! Calls of single crates on their happy paths, and worked examples: what no clause says. They stand together here, since a
+//! crate with tests is proved once with them and once without.
+#![tactic(auto)]
+
+#[cfg(test)]
+mod amo;
+#[cfg(test)]
+mod amo_corners;
+#[cfg(test)]
+mod book;
+#[cfg(test)]
+mod budget;
+#[cfg(test)]
+mod cells;
+#[cfg(test)]
+mod cutting;
+#[cfg(test)]
+mod cycles;
+#[cfg(test)]
+mod deliveries;
+#[cfg(test)]
+mod expand;
+#[cfg(test)]
+mod frontier;
+#[cfg(test)]
+mod initials;
+#[cfg(test)]
+mod lowering;
+#[cfg(test)]
+mod marks;
+#[cfg(test)]
+mod names;
+#[cfg(test)]
+mod numbers;
+#[cfg(test)]
+mod orders;
+#[cfg(test)]
+mod pile;
+#[cfg(test)]
+mod proposals;
+#[cfg(test)]
+mod reach;
+#[cfg(test)]
+mod refutations;
+#[cfg(test)]
+mod results;
+#[cfg(test)]
+mod schedules;
+#[cfg(test)]
+mod sequences;
+#[cfg(test)]
+mod tallies;
+#[cfg(test)]
+mod tasks;
+#[cfg(test)]
+mod words;
+#[cfg(test)]
+mod workers;

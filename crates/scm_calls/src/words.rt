@@ -1,0 +1,44 @@
+//! The words of the tests: sessions, names, cells and accesses.
+
+use scm_book::{Decl, Reply};
+use scm_cells::{Initial, Name, Num, Width};
+use scm_lowering::Access;
+use std::process::Abort;
+
+/// The sessions of the tests.
+pub(crate) const ANNA: u16 = 1;
+
+pub(crate) const BERT: u16 = 2;
+
+pub(crate) fn name(rt: &impl Abort, word: &[u8]) -> Name {
+    Name::read(word).expect(rt, "a name")
+}
+
+/// A cell of 32 bits that holds 0 at first.
+pub(crate) fn cell(rt: &impl Abort, word: &[u8]) -> Decl {
+    Decl {
+        name: name(rt, word),
+        width: Width::W,
+        initial: Initial::Given(Num::Plain(0)),
+    }
+}
+
+pub(crate) fn load(rt: &impl Abort, word: &[u8], value: u64) -> Access {
+    Access::Load {
+        width: Width::W,
+        cell: name(rt, word),
+        value: Num::Plain(value),
+    }
+}
+
+pub(crate) fn store(rt: &impl Abort, word: &[u8], value: u64) -> Access {
+    Access::Store {
+        width: Width::W,
+        cell: name(rt, word),
+        value: Num::Plain(value),
+    }
+}
+
+pub(crate) fn is_done(reply: Reply) -> bool {
+    matches!(reply, Reply::Done)
+}

@@ -1,0 +1,5 @@
+pub mod PlaceLaws
+pub mod MomentLaws
+pub mod SeeingLaws
+pub mod RuleLaws
+pub mod RefutingLaws

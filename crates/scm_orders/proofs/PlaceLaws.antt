@@ -1,0 +1,59 @@
+-- What is known of the operation at a place from what it read or wrote.
+use Rattle.std.proofs.Common.{ℕ, ◌≡◌, ◌<◌, true, false, List, length, Option, None, Some, IsSome, option_and_then, refl, sym, ap, ◌∙◌, subst, ⊎_elim}
+use Rattle.std.proofs.lemmas.Bool.{cases_eq}
+use Rattle.scm_sequences.specs.declared.op.Op.{Op}
+use Rattle.scm_sequences.specs.Ops.{cell_of, read_of, written_to}
+use Rattle.scm_sequences.specs.SequenceLaws.{process_within}
+use Rattle.scm_sequences.specs.FixedLaws.{read_of-other}
+use Rattle.scm_sequences.specs.Traces.{Trace}
+use Rattle.scm_orders.specs.declared.edge.Place.{Place}
+use Rattle.scm_orders.specs.declared.edge.Edge.{Edge}
+use Rattle.scm_orders.specs.Places.{operation_at, read_at, written_at}
+use Rattle.scm_orders.specs.Following.{SeesOnly, IsOnlySource, ReadsFirst, IsBeforeWrites}
+
+-- what `IsSome` says of nothing
+pub none_is : false ≡ true → ⊥
+none_is h = cc
+
+pub is_some_at : {A : Type 0} (o : Option A) (x : A) → o ≡ Some x → IsSome o
+is_some_at o x is = subst IsSome (sym is) refl
+
+pub some_first : {A B : Type 0} (f : A → Option B) (o : Option A) → IsSome (option_and_then f o) → IsSome o
+some_first f None some = some
+some_first f (Some x) some = refl
+
+one_cell_of : (op : Op) (a b : ℕ) → IsSome (read_of op a) → IsSome (read_of op b) → a ≡ b
+one_cell_of op a b reads_a reads_b = sym (at a reads_a) ∙ at b reads_b where
+  at : (c : ℕ) → IsSome (read_of op c) → cell_of op ≡ c
+  at c reads = ⊎_elim (λ same. same) (λ ne. absurd (none_is (subst IsSome (read_of-other op c ne) reads))) (cases_eq (cell_of op) c)
+
+-- an operation reads one cell
+pub one_cell : (t : Trace) (place : Place) (a b : ℕ) → IsSome (read_at t place a) → IsSome (read_at t place b) → a ≡ b
+one_cell t place a b = go (operation_at t place) where
+  go : (o : Option Op) → IsSome (option_and_then (λ op. read_of op a) o) → IsSome (option_and_then (λ op. read_of op b) o) → a ≡ b
+  go None reads_a reads_b = absurd (none_is reads_a)
+  go (Some op) reads_a reads_b = one_cell_of op a b reads_a reads_b
+
+-- and one value there
+one_reading : (t : Trace) (place : Place) (a b v u : ℕ) → read_at t place a ≡ Some v → read_at t place b ≡ Some u → (a ≡ b) × (v ≡ u)
+one_reading t place a b v u reads_a reads_b =
+    let cell : a ≡ b = one_cell t place a b (is_some_at (read_at t place a) v reads_a) (is_some_at (read_at t place b) u reads_b) in
+    let same : Some v ≡ Some u = sym reads_a ∙ ap (read_at t place) cell ∙ reads_b in
+    (cell, let e : v ≡ u = cc in e)
+
+pub only_here : (t : Trace) (earlier : List Edge) (cell value : ℕ) (from to : Place) → read_at t to cell ≡ Some value → IsOnlySource t earlier from to → SeesOnly t earlier cell value from to
+only_here t earlier cell value from to reads only =
+    let same : (only.0 ≡ cell) × (only.1 ≡ value) = one_reading t to only.0 cell only.1 value only.2.reads reads in
+    subst (λ c. SeesOnly t earlier c value from to) same.0 (subst (λ v. SeesOnly t earlier only.0 v from to) same.1 only.2)
+
+pub first_here : (t : Trace) (earlier : List Edge) (cell value : ℕ) (from to : Place) → read_at t from cell ≡ Some value → IsBeforeWrites t earlier from to → ReadsFirst t earlier cell value from to
+first_here t earlier cell value from to reads only =
+    let same : (only.0 ≡ cell) × (only.1 ≡ value) = one_reading t from only.0 cell only.1 value only.2.reads reads in
+    subst (λ c. ReadsFirst t earlier c value from to) same.0 (subst (λ v. ReadsFirst t earlier only.0 v from to) same.1 only.2)
+
+-- what writes is an operation of a process of the trace
+pub written_within : (t : Trace) (w : Place) (cell value : ℕ) → written_at t w cell ≡ Some value → w.process < length t.sequences
+written_within t w cell value wrote = go (operation_at t w) refl wrote where
+  go : (o : Option Op) → operation_at t w ≡ o → option_and_then (λ op. written_to op cell) o ≡ Some value → w.process < length t.sequences
+  go None e is = absurd (let f : ◌≡◌ {A = Option ℕ} None (Some value) = is in cc)
+  go (Some op) e is = process_within t.sequences w.process w.at op e
