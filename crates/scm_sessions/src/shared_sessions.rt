@@ -116,18 +116,17 @@ impl<'a, B: BookNaming, T: Wait> SharedSessions<'a, B, T> {
         }
     }
 
-    /// The names in the order of their entry, which go into `room`, and their passes.
-    pub(crate) fn into_parts(self, mut room: Vec<Name>) -> (Vec<Name>, Vec<Pass<B>>)
-        requires empty { room.items ≡ [] }
-        requires fits { MOST_SESSIONS ≤ vec_capacity room }
-        ensures names { result.0.items ≡ self.entry.names }
-        ensures passes { result.1.items ≡ self.entry.passes }
-        ensures each { length result.1.items ≡ length result.0.items }
-        ensures numbered { AreNumberedFrom 0 result.1.items }
+    /// The passes, and into `names` the names, both in the order of their entry.
+    pub(crate) fn into_parts(self, names: &mut Vec<Name>) -> Vec<Pass<B>>
+        requires empty { names.old.items ≡ [] }
+        requires fits { MOST_SESSIONS ≤ vec_capacity names.old }
+        ensures names { names.new.items ≡ self.entry.names }
+        ensures passes { result.items ≡ self.entry.passes }
+        ensures each { length result.items ≡ length names.new.items }
+        ensures numbered { AreNumberedFrom 0 result.items }
     {
-        let SharedSessions { names, passes, .. } = self;
-        room.extend_from_slice(names.as_slice()).unwrap();
-        (room, passes)
+        names.extend_from_slice(self.names.as_slice()).unwrap();
+        self.passes
     }
 }
 

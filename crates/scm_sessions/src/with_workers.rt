@@ -1,5 +1,5 @@
 //! The run of a script with workers beside it.
-ghost use Rattle.std.specs.Prelude.{◌≡◌, ◌≢◌, ◌≤◌, ◌↔◌, [], length, true, false, vec_capacity, IfOk, IfErr, OnOk, IsErrOf, IsTrue};
+ghost use Rattle.std.specs.Prelude.{◌≡◌, ◌≢◌, ◌≤◌, ◌↔◌, [], length, true, false, vec_capacity, IfOk, IfErr, IsErrOf, IsTrue};
 ghost use Rattle.scm_sequences.specs.declared.limits.TheConstants.{MOST_SESSIONS};
 ghost use Rattle.scm_book.specs.Journal.{IsLegalBook};
 ghost use Rattle.scm_sessions.specs.Ports.{inner_of, has_failed};
@@ -23,118 +23,27 @@ use std::io::{Read, Write};
 use std::sync::Wait;
 use std::thread::{Threads, join_mut};
 
-/// Answers each line of the script that is left, up to a fault, and then tells the workers to end.
-fn run_and_stop<B: BookNaming, T: Wait, R: Read, W: Write>(
-    alloc: Global,
-    book: &SharedBook<B>,
-    sessions: &mut SharedSessions<'_, B, T>,
-    lines: &mut LineReader,
-    reader: &mut Port<R>,
-    writer: &mut Port<W>,
-) -> Result<(), RunFault>
-    requires fresh { unread_of lines.old ≡ [] }
-    requires reads { has_failed reader.old ≡ false }
-    requires writes { has_failed writer.old ≡ false }
-    ensures ok { OnOk result (RunsWhole (R.remaining (inner_of reader.old)) (R.remaining (inner_of reader.new))
-        (W.contents (inner_of writer.old)) (W.contents (inner_of writer.new))
-        (λ exchanges. LeadTo MakesCall sessions.old exchanges sessions.new)) }
-    ensures read_failed { IsErrOf result RunFault.ReadFailed →
-        RunsWholeLines (R.remaining (inner_of reader.old)) (R.remaining (inner_of reader.new))
-        (W.contents (inner_of writer.old)) (W.contents (inner_of writer.new))
-        (λ exchanges. LeadTo MakesCall sessions.old exchanges sessions.new) }
-    ensures write_failed { IsErrOf result RunFault.WriteFailed →
-        RunsPart (R.remaining (inner_of reader.old)) (R.remaining (inner_of reader.new))
-        (W.contents (inner_of writer.old)) (W.contents (inner_of writer.new))
-        (λ exchanges. LeadTo MakesCall sessions.old exchanges sessions.new) }
-    ensures reader_failed { IsErrOf result RunFault.ReadFailed ↔ (has_failed reader.new ≡ true) }
-    ensures writer_failed { IsErrOf result RunFault.WriteFailed ↔ (has_failed writer.new ≡ true) }
-    ensures memory { IfErr result (λ fault. fault ≢ RunFault.NoMemory) }
-{
-    let ran = run_lines(alloc, sessions, lines, reader, writer);
-    book.stop_workers();
-    ran
-}
-
-/// Answers each line of the script that is left, up to a fault, beside workers, which end with it. Gives the tallies of workers
-/// and collector too.
-fn run_beside_workers<
-    B: BookNaming + Send + Sync,
-    R: Read,
-    W: Write,
-    G: Gate + Sync,
-    T: Threads + Wait + Sync,
->(
-    rt: &T,
-    alloc: Global,
-    book: &SharedBook<B>,
-    sessions: &mut SharedSessions<'_, B, T>,
-    lines: &mut LineReader,
-    reader: &mut Port<R>,
-    writer: &mut Port<W>,
-    gate: &G,
-    workers: usize,
-) -> (Vec<Tally<B>>, Result<(), RunFault>)
-    requires fresh { unread_of lines.old ≡ [] }
-    requires reads { has_failed reader.old ≡ false }
-    requires writes { has_failed writer.old ≡ false }
-    ensures ok { OnOk result.1 (RunsWhole (R.remaining (inner_of reader.old)) (R.remaining (inner_of reader.new))
-        (W.contents (inner_of writer.old)) (W.contents (inner_of writer.new))
-        (λ exchanges. LeadTo MakesCall sessions.old exchanges sessions.new)) }
-    ensures read_failed { IsErrOf result.1 RunFault.ReadFailed →
-        RunsWholeLines (R.remaining (inner_of reader.old)) (R.remaining (inner_of reader.new))
-        (W.contents (inner_of writer.old)) (W.contents (inner_of writer.new))
-        (λ exchanges. LeadTo MakesCall sessions.old exchanges sessions.new) }
-    ensures write_failed { IsErrOf result.1 RunFault.WriteFailed →
-        RunsPart (R.remaining (inner_of reader.old)) (R.remaining (inner_of reader.new))
-        (W.contents (inner_of writer.old)) (W.contents (inner_of writer.new))
-        (λ exchanges. LeadTo MakesCall sessions.old exchanges sessions.new) }
-    ensures reader_failed { IsErrOf result.1 RunFault.ReadFailed ↔ (has_failed reader.new ≡ true) }
-    ensures writer_failed { IsErrOf result.1 RunFault.WriteFailed ↔ (has_failed writer.new ≡ true) }
-    ensures memory { IfErr result.1 (λ fault. fault ≢ RunFault.NoMemory) }
-{
-    let mut work = || run_workers::<B, SharedBook<B>, G, T>(rt, alloc, book, gate, workers);
-    let mut script = || run_and_stop(alloc, book, sessions, lines, reader, writer);
-    let (tallies, ran) = join_mut(rt, &mut work, &mut script);
-    (tallies.unwrap_or(Vec::new(alloc)), ran)
-}
-
-/// The names of the sessions in the order of their entry, their passes, and the tallies of workers and collector.
-#[derive(Drop)]
-struct Ran<B: BookNaming> {
-    names: Vec<Name>,
-    passes: Vec<Pass<B>>,
-    tallies: Vec<Tally<B>>,
-}
-
-/// Runs the script over this book, beside workers. The names go into `room`.
-fn run_over<
-    'a,
-    B: BookNaming + Send + Sync,
-    R: Read,
-    W: Write,
-    G: Gate + Sync,
-    T: Threads + Wait + Sync,
->(
+/// Runs the script over this book, and then tells the workers to end. Gives the passes of the sessions, whose names go into
+/// `names`, in the order of their entry.
+fn run_and_stop<'a, B: BookNaming, T: Wait, R: Read, W: Write>(
     rt: &'a T,
     alloc: Global,
     book: &'a SharedBook<B>,
-    room: Vec<Name>,
+    names: &mut Vec<Name>,
     lines: &mut LineReader,
     reader: &mut Port<R>,
     writer: &mut Port<W>,
-    gate: &G,
-    workers: usize,
-) -> Result<Ran<B>, RunFault>
-    requires empty { room.items ≡ [] }
-    requires fits { MOST_SESSIONS ≤ vec_capacity room }
+) -> Result<Vec<Pass<B>>, RunFault>
+    requires empty { names.old.items ≡ [] }
+    requires fits { MOST_SESSIONS ≤ vec_capacity names.old }
     requires fresh { unread_of lines.old ≡ [] }
     requires reads { has_failed reader.old ≡ false }
     requires writes { has_failed writer.old ≡ false }
-    ensures ok { IfOk result (λ ran. RunsWhole (R.remaining (inner_of reader.old)) (R.remaining (inner_of reader.new))
+    ensures ok { IfOk result (λ passes. RunsWhole (R.remaining (inner_of reader.old)) (R.remaining (inner_of reader.new))
         (W.contents (inner_of writer.old)) (W.contents (inner_of writer.new))
-        (λ exchanges. LeadTo MakesCall (callers [] []) exchanges (callers ran.names.items ran.passes.items))) }
-    ensures each { IfOk result (λ ran. length ran.passes.items ≡ length ran.names.items) }
-    ensures numbered { IfOk result (λ ran. AreNumberedFrom 0 ran.passes.items) }
+        (λ exchanges. LeadTo MakesCall (callers [] []) exchanges (callers names.new.items passes.items))) }
+    ensures each { IfOk result (λ passes. length passes.items ≡ length names.new.items) }
+    ensures numbered { IfOk result (λ passes. AreNumberedFrom 0 passes.items) }
     ensures read_failed { IsErrOf result RunFault.ReadFailed →
         RunsWholeLines (R.remaining (inner_of reader.old)) (R.remaining (inner_of reader.new))
         (W.contents (inner_of writer.old)) (W.contents (inner_of writer.new)) AllFit }
@@ -146,24 +55,55 @@ fn run_over<
     ensures memory { IfErr result (λ fault. fault ≢ RunFault.NoMemory) }
 {
     let mut sessions = SharedSessions::new(alloc, rt, book);
-    let (tallies, ran) = run_beside_workers::<B, R, W, G, T>(
-        rt,
-        alloc,
-        book,
-        &mut sessions,
-        lines,
-        reader,
-        writer,
-        gate,
-        workers,
-    );
+    let ran = run_lines(alloc, &mut sessions, lines, reader, writer);
+    book.stop_workers();
     ran?;
-    let (names, passes) = sessions.into_parts(room);
-    Ok(Ran {
-        names,
-        passes,
-        tallies,
-    })
+    Ok(sessions.into_parts(names))
+}
+
+/// Runs the script over this book beside workers, which end with it. Gives the tallies of workers and collector, and the passes
+/// of the sessions, whose names go into `names`, in the order of their entry.
+fn run_beside_workers<
+    B: BookNaming + Send + Sync,
+    R: Read,
+    W: Write,
+    G: Gate + Sync,
+    T: Threads + Wait + Sync,
+>(
+    rt: &T,
+    alloc: Global,
+    book: &SharedBook<B>,
+    names: &mut Vec<Name>,
+    lines: &mut LineReader,
+    reader: &mut Port<R>,
+    writer: &mut Port<W>,
+    gate: &G,
+    workers: usize,
+) -> (Vec<Tally<B>>, Result<Vec<Pass<B>>, RunFault>)
+    requires empty { names.old.items ≡ [] }
+    requires fits { MOST_SESSIONS ≤ vec_capacity names.old }
+    requires fresh { unread_of lines.old ≡ [] }
+    requires reads { has_failed reader.old ≡ false }
+    requires writes { has_failed writer.old ≡ false }
+    ensures ok { IfOk result.1 (λ passes. RunsWhole (R.remaining (inner_of reader.old)) (R.remaining (inner_of reader.new))
+        (W.contents (inner_of writer.old)) (W.contents (inner_of writer.new))
+        (λ exchanges. LeadTo MakesCall (callers [] []) exchanges (callers names.new.items passes.items))) }
+    ensures each { IfOk result.1 (λ passes. length passes.items ≡ length names.new.items) }
+    ensures numbered { IfOk result.1 (λ passes. AreNumberedFrom 0 passes.items) }
+    ensures read_failed { IsErrOf result.1 RunFault.ReadFailed →
+        RunsWholeLines (R.remaining (inner_of reader.old)) (R.remaining (inner_of reader.new))
+        (W.contents (inner_of writer.old)) (W.contents (inner_of writer.new)) AllFit }
+    ensures write_failed { IsErrOf result.1 RunFault.WriteFailed →
+        RunsPart (R.remaining (inner_of reader.old)) (R.remaining (inner_of reader.new))
+        (W.contents (inner_of writer.old)) (W.contents (inner_of writer.new)) AllFit }
+    ensures reader_failed { IsErrOf result.1 RunFault.ReadFailed ↔ (has_failed reader.new ≡ true) }
+    ensures writer_failed { IsErrOf result.1 RunFault.WriteFailed ↔ (has_failed writer.new ≡ true) }
+    ensures memory { IfErr result.1 (λ fault. fault ≢ RunFault.NoMemory) }
+{
+    let mut work = || run_workers::<B, SharedBook<B>, G, T>(rt, alloc, book, gate, workers);
+    let mut script = || run_and_stop(rt, alloc, book, names, lines, reader, writer);
+    let (tallies, ran) = join_mut(rt, &mut work, &mut script);
+    (tallies.unwrap_or(Vec::new(alloc)), ran)
 }
 
 /// Runs a script over a new book, in its order on the caller's thread, while `workers` threads and a collector look for
@@ -210,19 +150,15 @@ pub fn run_with_workers<
         (reader.new ≡ reader.old) × (writer.new ≡ writer.old) }
 {
     let mut lines = LineReader::new(alloc)?;
-    let Ok(room) = Vec::with_capacity(alloc, MOST_SESSIONS) else {
+    let Ok(mut names) = Vec::with_capacity(alloc, MOST_SESSIONS) else {
         return Err(RunFault::NoMemory);
     };
     let book = SharedBook::<B>::new(alloc, token);
-    let Ran {
-        names,
-        passes,
-        tallies,
-    } = run_over::<B, R, W, G, T>(
-        rt, alloc, &book, room, &mut lines, reader, writer, gate, workers,
-    )?;
+    let (tallies, ran) = run_beside_workers::<B, R, W, G, T>(
+        rt, alloc, &book, &mut names, &mut lines, reader, writer, gate, workers,
+    );
     Ok(Ended {
-        audit: book.audit(passes, tallies),
+        audit: book.audit(ran?, tallies),
         names,
     })
 }
