@@ -8,4 +8,7 @@ pub mod Numbering
 pub mod Naming
 pub mod Cutting
 pub mod Running
+pub mod Making
+pub mod Entries
+pub mod Sharing
 mod WithText

@@ -17,7 +17,7 @@ module _ {X : Type 0} (test : X → Bool) where
   found_at false x xs fails later some = let rest : list_any test xs ≡ true = rw fails at some in let within = later rest in rw fails (omega arith)
 
   -- an element that passes has a place
-  found_within : (xs : List X) → list_any test xs ≡ true → position_or_len test xs < length xs
+  pub found_within : (xs : List X) → list_any test xs ≡ true → position_or_len test xs < length xs
   found_within [] some = absurd (cc)
   found_within (x ∷ xs) some = found_at (test x) x xs refl (found_within xs) some
 
@@ -26,7 +26,7 @@ module _ {X : Type 0} (test : X → Bool) where
   place_at true x xs passes within = rw passes (omega arith)
   place_at false x xs fails within = rw fails (omega arith)
 
-  place_within : (xs : List X) → position_or_len test xs ≤ length xs
+  pub place_within : (xs : List X) → position_or_len test xs ≤ length xs
   place_within [] = omega arith
   place_within (x ∷ xs) = place_at (test x) x xs refl (place_within xs)
 

@@ -8,6 +8,8 @@ pub mod Replies
 pub mod Exchanges
 pub mod Script
 pub mod Answering
+pub mod Callers
+pub mod SharedRuns
 pub mod JournalText
 pub use Rattle.scm_sequences.specs.Refusals
 pub use Rattle.scm_cells.specs.Names

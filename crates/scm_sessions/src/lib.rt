@@ -7,6 +7,7 @@ mod asking;
 mod calls;
 mod commands;
 mod declarations;
+mod ended;
 #[cfg(test)]
 mod fakes;
 mod fault;
@@ -16,16 +17,20 @@ mod reading;
 mod replies;
 mod run;
 mod sessions;
+mod shared_sessions;
 mod shown;
 mod situations;
 mod verdicts;
+mod with_workers;
 mod words;
 mod writing;
 
 pub use calls::read_line;
+pub use ended::Ended;
 pub use fault::RunFault;
 pub use journal::write_journal;
 pub use port::Port;
 pub use replies::write_reply;
 pub use run::run_script;
+pub use with_workers::run_with_workers;
 pub use words::line_name;

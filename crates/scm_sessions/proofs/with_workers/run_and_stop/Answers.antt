@@ -1,0 +1,15 @@
+use Rattle.std.proofs.lemmas.Result.{err_from_is_err_and}
+use Rattle.scm_sessions.proofs.Sharing.{RunsWholeLines-fit, RunsPart-fit}
+use Rattle.scm_sessions.proofs.with_workers.run_and_stop.Goals as goal
+
+pub returns-in_err-ran-clause-read_failed : goal.returns-in_err-ran-clause-read_failed
+returns-in_err-ran-clause-read_failed g c =
+    let fault = err_from_is_err_and c.from_residual.result c.from_residual.ensures.1 in
+    let error = fault.1 in
+    let same = fault.2 in let was = c.in_err-ran.was in λ is. RunsWholeLines-fit (c.run_lines-ran.ensures.read_failed (cc))
+
+pub returns-in_err-ran-clause-write_failed : goal.returns-in_err-ran-clause-write_failed
+returns-in_err-ran-clause-write_failed g c =
+    let fault = err_from_is_err_and c.from_residual.result c.from_residual.ensures.1 in
+    let error = fault.1 in
+    let same = fault.2 in let was = c.in_err-ran.was in λ is. RunsPart-fit (c.run_lines-ran.ensures.write_failed (cc))
