@@ -76,7 +76,7 @@ module _ (old new : List (List ℕ)) (name : List ℕ) (passes : List Known) (pl
     new_invariant most away numbered =
         let within : length new ≤ MOST_SESSIONS = subst (λ (ns : List (List ℕ)). length ns ≤ MOST_SESSIONS) (sym is_new) (with_name_within old name most away) in
         let both : length later ≡ length new =
-            ap length entered ∙ length-append passes _ ∙ ap (λ n. n + 1) count ∙ sym (length-append old (name ∷ [])) ∙ ap length (sym more_names) in
+        ap length entered ∙ length-append passes _ ∙ ap (λ n. n + 1) count ∙ sym (length-append old (name ∷ [])) ∙ ap length (sym more_names) in
         (within, both, subst (AreNumberedFrom 0) (sym entered) (numbered-push 0 passes (length passes) (omega arith) numbered))
 
     pub new_place : (place ≡ session_of new name) × (place < length later)
