@@ -1,4 +1,4 @@
-"""Feeds generated scripts to the monitor and prints how long it took. Called by bench/run."""
+"""Feeds generated scripts to the monitor, without workers, and prints how long it took. Called by bench/run."""
 
 import os
 import platform
@@ -19,13 +19,14 @@ ROUNDS = (10, 100, 1_000)  # of a trace that grows, two reports and a question e
 
 
 def run(program, script, seconds=None):
-    """The replies to a script and the seconds that the run took, or None where it took longer than was given."""
+    """The replies to a script of a program with these words, and the seconds that the run took, or None where it took longer
+    than was given."""
     with tempfile.TemporaryFile() as source, tempfile.TemporaryFile() as replies:
         source.write(script)
         source.seek(0)
         begin = time.perf_counter()
         try:
-            ended = subprocess.run([program], stdin=source, stdout=replies, timeout=seconds)
+            ended = subprocess.run(program, stdin=source, stdout=replies, timeout=seconds)
         except subprocess.TimeoutExpired:
             return None
         taken = time.perf_counter() - begin
@@ -180,14 +181,14 @@ def measure_checker(checker):
     if not os.access(checker, os.X_OK):
         print(f"\nchecker of refutations: there is no program at {checker}; 'rt run' in crates/scm_bench builds it")
         return
-    replies, taken = best(checker, b"")
+    replies, taken = best([checker], b"")
     if replies != [b"refuted 100000 situations"]:
         sys.exit("bench: the refutation was turned down")
     print(f"\nchecker of refutations: 100,000 situations in {taken:.3f} s, with the making of the list")
 
 
 def main():
-    program = os.path.abspath(sys.argv[1])
+    program = [os.path.abspath(sys.argv[1]), "--workers", "0"]
     print(f"machine: {machine()}")
     measure_reports(program)
     measure_questions(program, "questions that are inconsistent: all situations are found", forbidden, b"a inconsistent")

@@ -11,6 +11,7 @@ import traces
 READS = (0.3, 0.5, 0.8)
 SLICES = (1, 10, 100)
 SECONDS = 120
+ALONE = ("--workers", "0")
 
 
 def run(program, lines):
@@ -18,7 +19,7 @@ def run(program, lines):
     script = "".join(line + "\n" for line in lines).encode()
     begin = resource.getrusage(resource.RUSAGE_CHILDREN).ru_utime
     try:
-        replies = subprocess.run([program], input=script, stdout=subprocess.PIPE, timeout=SECONDS).stdout.splitlines()
+        replies = subprocess.run([program, *ALONE], input=script, stdout=subprocess.PIPE, timeout=SECONDS).stdout.splitlines()
     except subprocess.TimeoutExpired:
         replies = None
     return replies, resource.getrusage(resource.RUSAGE_CHILDREN).ru_utime - begin
@@ -86,7 +87,7 @@ def used(running):
 
 def questions(program, lines):
     """The reply to each question, with the processor's time of the question and of the reports just before it."""
-    with subprocess.Popen([program], stdin=subprocess.PIPE, stdout=subprocess.PIPE) as running:
+    with subprocess.Popen([program, *ALONE], stdin=subprocess.PIPE, stdout=subprocess.PIPE) as running:
         waiting, before = 0, 0.0
         for line in lines:
             running.stdin.write(line.encode() + b"\n")

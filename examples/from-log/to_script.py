@@ -8,21 +8,30 @@ MOST_CELLS = 64  # of a trace
 # An access has an address, what was stored or given ('data='), and what came back ('->').
 ACCESS = re.compile(r"hart (\d+): (\S+) .*addr=([0-9a-f]+)(?: data=([0-9a-f]+))?(?: -> ([0-9a-f]+))?")
 
+SIZES = {"w": 4, "d": 8}  # in bytes
+
 accesses = []  # a hart, its access in the monitor's words
 cells = {}  # a cell's name, and its width
 harts_of = {}  # a cell's name, and the harts that accessed it
-reserved = {}  # a hart, and what its lr saw: the access waits for the sc
+reserved = {}  # a hart, its lr's width and cell, what the lr saw, and its place among the accesses
 
 
 def add(hart, words):
     accesses.append((int(hart), words))
 
 
-def end_reservation(hart):
-    """An lr that no sc has answered was a load."""
-    if hart in reserved:
-        width, cell, seen = reserved.pop(hart)
-        add(hart, f"l{width} {cell} {seen}")
+def declare(address, width, line):
+    """The cell of an access. Cells stand beside one another: the monitor knows their names, and not where they lie."""
+    at = int(address, 16)
+    if at % SIZES[width] != 0:
+        sys.exit(f"to_script: not aligned: {line}")
+    cell = f"m{address}"
+    if cells.setdefault(cell, width) != width:
+        sys.exit(f"to_script: {cell} is accessed in both widths: {line}")
+    other = f"m{at - at % 8 if width == 'w' else at + 4:0{len(address)}x}"
+    if other != cell and (width, cells.get(other)) in (("w", "d"), ("d", "w")):
+        sys.exit(f"to_script: {cell} overlaps {other}: {line}")
+    return cell
 
 
 for line in sys.stdin:
@@ -34,20 +43,20 @@ for line in sys.stdin:
     width = "d" if name in ("ld", "sd") or ".d" in name else "w"
     if not re.fullmatch(r"[ls][wd]|(lr|sc|amo[a-z]+)\.[wd](\.aq|\.rl|\.aqrl)?", name):
         sys.exit(f"to_script: not an access of 32 or 64 bits: {line}")
-    cell = "m" + address
+    cell = declare(address, width, line)
     harts_of.setdefault(cell, set()).add(hart)
-    if cells.setdefault(cell, width) != width:
-        sys.exit(f"to_script: {cell} is accessed in both widths: {line}")
 
-    if name.startswith("sc.") and int(back, 16) == 0 and reserved.get(hart, "")[:2] == (width, cell):
-        add(hart, f"rw {cell} {reserved.pop(hart)[2]} {data}")
-        continue
-    end_reservation(hart)
     if name.startswith("lr."):
-        reserved[hart] = (width, cell, back)
+        reserved[hart] = (width, cell, back, len(accesses))
+        add(hart, f"l{width} {cell} {back}")
     elif name.startswith("sc."):
-        if int(back, 16) == 0:
-            add(hart, f"s{width} {cell} {data}")
+        pair = reserved.pop(hart, None)
+        if int(back, 16) != 0:
+            continue  # nothing was stored, and the lr was a load
+        if not pair or pair[:2] != (width, cell):
+            sys.exit(f"to_script: an sc that succeeded without its lr: {line}")
+        accesses[pair[3]] = None  # one step, where the sc stands
+        add(hart, f"rw {cell} {pair[2]} {data}")
     elif name.startswith("amo"):
         add(hart, f"{name} {cell} {data} {back}")  # what was given, then what came back
     elif name.startswith("s"):
@@ -55,9 +64,7 @@ for line in sys.stdin:
     else:
         add(hart, f"{name} {cell} {back}")
 
-for hart in list(reserved):
-    end_reservation(hart)
-
+accesses = [access for access in accesses if access]
 if not accesses:
     sys.exit("to_script: the log has no access in this format")
 if len(cells) > MOST_CELLS:

@@ -65,7 +65,7 @@ class Writer:
             75: f"back {name} {self.random.randrange(3)}", 76: f"raise {name} {self.random.choice([10, 100, 1000, 1000001])}",
             77: f"close {name}" if self.random.random() < 0.3 else "list",
         }
-        question = f"{self.random.choice(['ask', 'ask', 'why'])} {name}{mark}"
+        question = f"{self.random.choice(['ask', 'ask', 'why', 'cycle'])} {name}{mark}"
         return f"{session} {others.get(kind, question)}".encode()
 
     def mutated(self, line):

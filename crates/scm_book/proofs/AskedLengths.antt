@@ -15,8 +15,8 @@ use Rattle.scm_book.specs.Machine.{TraceState, trace_in}
 use Rattle.scm_book.specs.Refusals.{refusal_in, question_cause}
 use Rattle.scm_book.specs.Sets.{asked_lengths, most_steps, Searches, SearchesAt}
 use Rattle.scm_book.specs.Sound.{IsSoundTrace, IsKeptFor}
-use Rattle.scm_book.specs.Steps.{IsAbout}
-use Rattle.scm_book.specs.Verdicts.{Fits}
+use Rattle.scm_book.specs.Steps.{IsAbout, AsksCycle}
+use Rattle.scm_book.specs.Verdicts.{Fits, FitsCycle}
 use Rattle.scm_book.proofs.Keeping.{kept_of}
 use Rattle.scm_book.proofs.Questions.{names_of}
 use Rattle.scm_book.proofs.Sounding.{IsWithin-mark}
@@ -75,6 +75,10 @@ module _ (state : TraceState) (mark : Option ℕ) (limit made : ℕ) (lengths : 
     by : (wish : Bool) → IsAsWanted wish reply → AsksFor wish state mark reply
     by true wanted = (about, wanted)
     by false wanted = (about, wanted)
+
+-- what refutes the trace cut to them refutes the trace that the question is about
+pub asks_cycle_found : (state : TraceState) (mark : Option ℕ) (lengths : List ℕ) (reply : ReplyData) → asked_lengths state mark ≡ Ok lengths → FitsCycle (cut_to (trace_in state) lengths) reply → AsksCycle state mark reply
+asks_cycle_found state mark lengths reply is fits = about_asked state mark (λ t. FitsCycle t reply) lengths is fits
 
 -- ---- what it makes of the set
 

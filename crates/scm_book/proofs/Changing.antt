@@ -1,7 +1,7 @@
 -- Only a call that is done, or sets a mark, changes the machine.
 use Rattle.std.proofs.Common.{◌≡◌, ℕ, true, false, Option, None, Some, IsSomeAnd, subst, inl, inr}
 use Rattle.scm_sequences.specs.declared.refusal.Refusal.{Refusal}
-use Rattle.scm_book.specs.Calls.{CallData, opens, claims, releases, reports, sets_mark, goes_back, raises, asks, asks_why, shows, lists, closes, ReplyData, done, marked}
+use Rattle.scm_book.specs.Calls.{CallData, opens, claims, releases, reports, sets_mark, goes_back, raises, asks, asks_why, asks_cycle, shows, lists, closes, ReplyData, done, marked}
 use Rattle.scm_book.specs.Machine.{Machine, TraceState, trace_named}
 use Rattle.scm_book.specs.Refusals.{refusal_of}
 use Rattle.scm_book.specs.Steps.{Unless, HasEffect, IsStepOrNoMemory}
@@ -38,6 +38,7 @@ effect-keeps old new session (goes_back name m) reply still effect = absurd (cha
 effect-keeps old new session (raises name n) reply still effect = absurd (changing (trace_named old name) _ reply still effect)
 effect-keeps old new session (asks name mark) reply still effect = keeping (trace_named old name) _ (new ≡ old) effect
 effect-keeps old new session (asks_why name mark) reply still effect = keeping (trace_named old name) _ (new ≡ old) effect
+effect-keeps old new session (asks_cycle name mark) reply still effect = keeping (trace_named old name) _ (new ≡ old) effect
 effect-keeps old new session (shows name p) reply still effect = keeping (trace_named old name) _ (new ≡ old) effect
 effect-keeps old new session lists reply still effect = effect.1
 effect-keeps old new session (closes name) reply still effect = absurd (told-done reply still effect.0)

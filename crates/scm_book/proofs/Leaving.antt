@@ -12,7 +12,7 @@ use Rattle.scm_reach.specs.Members.{Member}
 use Rattle.scm_sequences.specs.declared.op.Op.{Op}
 use Rattle.scm_reach.specs.Cutting.{cut_members}
 use Rattle.scm_reach.specs.WorkLaws.{KeepsWork-idle, KeepsWork-counted}
-use Rattle.scm_book.specs.Calls.{CallData, opens, claims, releases, reports, sets_mark, goes_back, raises, asks, asks_why, shows, lists, closes, ReplyData, done, marked, consistent, inconsistent, undecided, because, ops, listed, refused}
+use Rattle.scm_book.specs.Calls.{CallData, opens, claims, releases, reports, sets_mark, goes_back, raises, asks, asks_why, asks_cycle, shows, lists, closes, ReplyData, done, marked, consistent, inconsistent, undecided, because, cycle, unknown, ops, listed, refused}
 use Rattle.scm_book.specs.Changes.{tells_of_change}
 use Rattle.scm_book.specs.Machine.{Machine, TraceState, trace_named}
 use Rattle.scm_book.specs.Sound.{IsKeptFor}
@@ -78,6 +78,7 @@ leaves_idle traces (goes_back name m) refusal made = (refl, refl)
 leaves_idle traces (raises name n) refusal made = (refl, refl)
 leaves_idle traces (asks name mark) refusal made = searches_idle traces name mark refusal made
 leaves_idle traces (asks_why name mark) refusal made = searches_idle traces name mark refusal made
+leaves_idle traces (asks_cycle name mark) refusal made = (refl, refl)
 leaves_idle traces (shows name p) refusal made = (refl, refl)
 leaves_idle traces lists refusal made = (refl, refl)
 leaves_idle traces (closes name) refusal made = (refl, refl)
@@ -91,6 +92,8 @@ still_other (consistent schedule fixed) effect other still h = h
 still_other inconsistent effect other still h = h
 still_other undecided effect other still h = h
 still_other (because situations) effect other still h = h
+still_other (cycle edges) effect other still h = h
+still_other unknown effect other still h = h
 still_other (ops operations) effect other still h = h
 still_other (listed names) effect other still h = h
 still_other (refused refusal) effect other still h = h
@@ -123,6 +126,7 @@ leaves_uncopied machine old new (goes_back name m) reply before after still left
 leaves_uncopied machine old new (raises name n) reply before after still left = left
 leaves_uncopied machine old new (asks name mark) reply before after still left = searches_uncopied machine old new name mark reply before after left
 leaves_uncopied machine old new (asks_why name mark) reply before after still left = searches_uncopied machine old new name mark reply before after left
+leaves_uncopied machine old new (asks_cycle name mark) reply before after still left = left
 leaves_uncopied machine old new (shows name p) reply before after still left = left
 leaves_uncopied machine old new lists reply before after still left = left
 leaves_uncopied machine old new (closes name) reply before after still left = (still_other reply _ _ still left.0, left.1)
@@ -138,6 +142,8 @@ known_counted (consistent schedule fixed) sequences lengths old new before after
 known_counted (consistent schedule fixed) sequences lengths old new before after (inr idle) = inr (idle.0, omega (arith, idle.1))
 known_counted inconsistent sequences lengths old new before after known = known
 known_counted (because situations) sequences lengths old new before after known = known
+known_counted (cycle edges) sequences lengths old new before after known = known
+known_counted unknown sequences lengths old new before after known = known
 known_counted done sequences lengths old new before after known = known
 known_counted (marked mark) sequences lengths old new before after known = known
 known_counted undecided sequences lengths old new before after known = known
@@ -173,6 +179,7 @@ leaves_counted machine old new (goes_back name m) reply before after left = (ome
 leaves_counted machine old new (raises name n) reply before after left = (omega (arith, left.1), (left.0, omega (arith, left.1)))
 leaves_counted machine old new (asks name mark) reply before after left = searches_counted machine old new name mark reply before after left
 leaves_counted machine old new (asks_why name mark) reply before after left = searches_counted machine old new name mark reply before after left
+leaves_counted machine old new (asks_cycle name mark) reply before after left = (omega (arith, left.1), (left.0, omega (arith, left.1)))
 leaves_counted machine old new (shows name p) reply before after left = (omega (arith, left.1), (left.0, omega (arith, left.1)))
 leaves_counted machine old new lists reply before after left = (omega (arith, left.1), (left.0, omega (arith, left.1)))
 leaves_counted machine old new (closes name) reply before after left = (omega (arith, left.1), (left.0, omega (arith, left.1)))

@@ -4,12 +4,13 @@ use Rattle.scm_sequences.specs.declared.refusal.Refusal.{Refusal}
 use Rattle.scm_lowering.specs.declared.access.Access.{Access}
 use Rattle.scm_frontier.specs.Situated.{Situated}
 use Rattle.scm_expand.specs.Outcomes.{Expanded}
+use Rattle.scm_orders.specs.declared.edge.Edge.{Edge}
 use Rattle.scm_book.specs.declared.call.Decl.{Decl}
 use Rattle.scm_book.specs.declared.call.Call.{Call}
-use Rattle.scm_book.specs.declared.call.Call.TheVariants.{OpenTrace, ClaimProcess, ReleaseProcess, Report, SetMark, GoBack, RaiseBudget, Ask, Why, ShowOps, ListTraces, CloseTrace}
+use Rattle.scm_book.specs.declared.call.Call.TheVariants.{OpenTrace, ClaimProcess, ReleaseProcess, Report, SetMark, GoBack, RaiseBudget, Ask, Why, Cycle, ShowOps, ListTraces, CloseTrace}
 use Rattle.scm_book.specs.declared.reply.Shown.{Shown}
 use Rattle.scm_book.specs.declared.reply.Reply.{Reply}
-use Rattle.scm_book.specs.declared.reply.Reply.TheVariants.{Done, MarkSet, Consistent, Inconsistent, Undecided, Because, Ops, Traces, Refused}
+use Rattle.scm_book.specs.declared.reply.Reply.TheVariants.{Done, MarkSet, Consistent, Inconsistent, Undecided, Because, Cycle as CycleFound, Unknown, Ops, Traces, Refused}
 use Rattle.scm_book.specs.declared.entry.Entry.{Entry}
 use Rattle.scm_book.specs.declared.event.Event.{Event}
 use Rattle.scm_book.specs.declared.event.Event.TheVariants.{CallBy, Take, Deliver}
@@ -31,6 +32,7 @@ pub data CallData : Type 0 where
   -- the trace's name, and the mark that the question is about, if it is about one
   asks : List ℕ → Option ℕ → CallData
   asks_why : List ℕ → Option ℕ → CallData
+  asks_cycle : List ℕ → Option ℕ → CallData
   -- the trace's name and a process
   shows : List ℕ → ℕ → CallData
   lists : CallData
@@ -47,6 +49,9 @@ pub data ReplyData : Type 0 where
   undecided : ReplyData
   -- the situations of a refutation
   because : List Situated → ReplyData
+  -- the edges of a short refutation
+  cycle : List Edge → ReplyData
+  unknown : ReplyData
   -- operations, each with the name of its cell
   ops : List Shown → ReplyData
   -- the names of traces
@@ -78,6 +83,7 @@ call_data (GoBack name mark) = goes_back name mark
 call_data (RaiseBudget name budget) = raises name budget
 call_data (Ask name mark) = asks name mark
 call_data (Why name mark) = asks_why name mark
+call_data (Cycle name mark) = asks_cycle name mark
 call_data (ShowOps name process) = shows name process
 call_data ListTraces = lists
 call_data (CloseTrace name) = closes name
@@ -89,6 +95,8 @@ reply_data (Consistent schedule fixed) = consistent schedule.items fixed.items
 reply_data Inconsistent = inconsistent
 reply_data Undecided = undecided
 reply_data (Because situations) = because situations.items
+reply_data (CycleFound edges) = cycle edges.items
+reply_data Unknown = unknown
 reply_data (Ops operations) = ops operations.items
 reply_data (Traces names) = listed names.items
 reply_data (Refused refusal) = refused refusal

@@ -14,7 +14,7 @@ use Rattle.scm_marks.specs.MarkLists.{mark_at, set_refusal}
 use Rattle.scm_lowering.specs.declared.access.Access.{Access}
 use Rattle.scm_lowering.specs.Lowering.{lowered}
 use Rattle.scm_book.specs.declared.call.Decl.{Decl}
-use Rattle.scm_book.specs.Calls.{CallData, opens, claims, releases, reports, sets_mark, goes_back, raises, asks, asks_why, shows, lists, closes}
+use Rattle.scm_book.specs.Calls.{CallData, opens, claims, releases, reports, sets_mark, goes_back, raises, asks, asks_why, asks_cycle, shows, lists, closes}
 use Rattle.scm_book.specs.Machine.{Machine, TraceState, trace_named}
 
 -- this refusal where its cause holds
@@ -138,7 +138,7 @@ abbrev pub question_cause : TraceState → Option ℕ → Option Refusal
 question_cause state None = None
 question_cause state (Some m) = refusal_in (mark_at state.marks m)
 
--- for `ask` and `why`
+-- for `ask`, `why` and `cycle`
 abbrev pub question_refusal : Machine → List ℕ → Option ℕ → Option Refusal
 question_refusal machine name mark = in_trace machine name (λ state. question_cause state mark)
 
@@ -161,6 +161,7 @@ refusal_of machine session (goes_back name m) = back_refusal machine session nam
 refusal_of machine session (raises name n) = raise_refusal machine session name n
 refusal_of machine session (asks name mark) = question_refusal machine name mark
 refusal_of machine session (asks_why name mark) = question_refusal machine name mark
+refusal_of machine session (asks_cycle name mark) = question_refusal machine name mark
 refusal_of machine session (shows name p) = show_refusal machine name p
 refusal_of machine session lists = None
 refusal_of machine session (closes name) = close_refusal machine session name

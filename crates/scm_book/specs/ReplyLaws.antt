@@ -14,11 +14,11 @@ use Rattle.scm_cells.specs.CellLists.{Declared}
 use Rattle.scm_lowering.specs.declared.access.Access.{Access}
 use Rattle.scm_lowering.specs.declared.access.Access.TheVariants.{Load, Store, Amo, ReadWrite}
 use Rattle.scm_lowering.specs.Lowering.{and_then, cell_and_width, cell_for, narrowed, width_eq, lowered}
-use Rattle.scm_book.specs.Calls.{CallData, opens, claims, releases, reports, sets_mark, goes_back, raises, asks, asks_why, shows, lists, closes, ReplyData, done, marked, consistent, inconsistent, undecided, because, ops, listed, refused}
+use Rattle.scm_book.specs.Calls.{CallData, opens, claims, releases, reports, sets_mark, goes_back, raises, asks, asks_why, asks_cycle, shows, lists, closes, ReplyData, done, marked, consistent, inconsistent, undecided, because, cycle, unknown, ops, listed, refused}
 use Rattle.scm_book.specs.Machine.{Machine, TraceState, trace_named, trace_in}
 use Rattle.scm_book.specs.Refusals.{cause, refusal_in, no_process, not_claimed, report_cause, question_cause, refusal_of}
 use Rattle.scm_book.specs.Steps.{Unless, IsAbout, HasEffect, IsStep}
-use Rattle.scm_book.specs.Verdicts.{Fits}
+use Rattle.scm_book.specs.Verdicts.{Fits, FitsCycle}
 use Rattle.scm_book.specs.Journal.{BookState, makes_entry, IsCall}
 
 -- a step may be answered so
@@ -109,6 +109,7 @@ causes-of_step machine session (goes_back name m) = trace-of_step (trace_named m
 causes-of_step machine session (raises name n) = trace-of_step (trace_named machine name) _ (λ state. or-of_step _ _ (cause-of_step _ _ refl) (if-of_step _ n _ refl))
 causes-of_step machine session (asks name mark) = trace-of_step (trace_named machine name) _ (λ state. question-of_step state mark)
 causes-of_step machine session (asks_why name mark) = trace-of_step (trace_named machine name) _ (λ state. question-of_step state mark)
+causes-of_step machine session (asks_cycle name mark) = trace-of_step (trace_named machine name) _ (λ state. question-of_step state mark)
 causes-of_step machine session (shows name p) = trace-of_step (trace_named machine name) _ (λ state. cause-of_step _ _ refl)
 causes-of_step machine session lists = none-of_step
 causes-of_step machine session (closes name) = trace-of_step (trace_named machine name) _ (λ state. cause-of_step _ _ refl)
@@ -129,16 +130,37 @@ fits-of_step cells t budget (consistent schedule fixed) fits = refl
 fits-of_step cells t budget inconsistent fits = refl
 fits-of_step cells t budget undecided fits = refl
 fits-of_step cells t budget (because situations) fits = refl
+fits-of_step cells t budget (cycle edges) fits = absurd fits
+fits-of_step cells t budget unknown fits = absurd fits
 fits-of_step cells t budget (ops operations) fits = absurd fits
 fits-of_step cells t budget (listed names) fits = absurd fits
 fits-of_step cells t budget (refused refusal) fits = absurd fits
 
-about-of_step : (state : TraceState) (mark : Option ℕ) (reply : ReplyData) → IsAbout state mark (λ t. Fits state.cells t state.budget reply) → is_of_step reply ≡ true
-about-of_step state None reply fits = fits-of_step state.cells (trace_in state) state.budget reply fits
-about-of_step state (Some m) reply fits = at (mark_at state.marks m) fits where
-  at : (r : Result (List ℕ) Refusal) → IsOkAnd r (λ lengths. Fits state.cells (cut_to (trace_in state) lengths) state.budget reply) → is_of_step reply ≡ true
-  at (Ok lengths) fits = fits-of_step state.cells (cut_to (trace_in state) lengths) state.budget reply fits
+fits_cycle-of_step : (t : Trace) (reply : ReplyData) → FitsCycle t reply → is_of_step reply ≡ true
+fits_cycle-of_step t done fits = absurd fits
+fits_cycle-of_step t (marked mark) fits = absurd fits
+fits_cycle-of_step t (consistent schedule fixed) fits = absurd fits
+fits_cycle-of_step t inconsistent fits = absurd fits
+fits_cycle-of_step t undecided fits = absurd fits
+fits_cycle-of_step t (because situations) fits = absurd fits
+fits_cycle-of_step t (cycle edges) fits = refl
+fits_cycle-of_step t unknown fits = refl
+fits_cycle-of_step t (ops operations) fits = absurd fits
+fits_cycle-of_step t (listed names) fits = absurd fits
+fits_cycle-of_step t (refused refusal) fits = absurd fits
+
+about-of_step : (state : TraceState) (mark : Option ℕ) (reply : ReplyData) (P : Trace → Type 0) → ((t : Trace) → P t → is_of_step reply ≡ true) → IsAbout state mark P → is_of_step reply ≡ true
+about-of_step state None reply P of_step fits = of_step (trace_in state) fits
+about-of_step state (Some m) reply P of_step fits = at (mark_at state.marks m) fits where
+  at : (r : Result (List ℕ) Refusal) → IsOkAnd r (λ lengths. P (cut_to (trace_in state) lengths)) → is_of_step reply ≡ true
+  at (Ok lengths) fits = of_step (cut_to (trace_in state) lengths) fits
   at (Err refusal) fits = absurd fits
+
+verdict-of_step : (state : TraceState) (mark : Option ℕ) (reply : ReplyData) → IsAbout state mark (λ t. Fits state.cells t state.budget reply) → is_of_step reply ≡ true
+verdict-of_step state mark reply fits = about-of_step state mark reply (λ t. Fits state.cells t state.budget reply) (λ t f. fits-of_step state.cells t state.budget reply f) fits
+
+cycle-of_step : (state : TraceState) (mark : Option ℕ) (reply : ReplyData) → IsAbout state mark (λ t. FitsCycle t reply) → is_of_step reply ≡ true
+cycle-of_step state mark reply fits = about-of_step state mark reply (λ t. FitsCycle t reply) (λ t f. fits_cycle-of_step t reply f) fits
 
 effect-of_step : (old new : Machine) (session : ℕ) (call : CallData) (reply : ReplyData) → HasEffect old session call reply new → is_of_step reply ≡ true
 effect-of_step old new session (opens name procs budget decls) reply effect = as_of_step reply done effect.0 refl
@@ -148,8 +170,9 @@ effect-of_step old new session (reports name p access) reply effect = in_trace-o
 effect-of_step old new session (sets_mark name) reply effect = in_trace-of_step (trace_named old name) _ reply (λ state e. as_of_step reply (marked _) e.0 refl) effect
 effect-of_step old new session (goes_back name m) reply effect = in_trace-of_step (trace_named old name) _ reply (λ state e. as_of_step reply done e.0 refl) effect
 effect-of_step old new session (raises name n) reply effect = in_trace-of_step (trace_named old name) _ reply (λ state e. as_of_step reply done e.0 refl) effect
-effect-of_step old new session (asks name mark) reply effect = in_trace-of_step (trace_named old name) _ reply (λ state e. about-of_step state mark reply e.0.0) effect
-effect-of_step old new session (asks_why name mark) reply effect = in_trace-of_step (trace_named old name) _ reply (λ state e. about-of_step state mark reply e.0.0) effect
+effect-of_step old new session (asks name mark) reply effect = in_trace-of_step (trace_named old name) _ reply (λ state e. verdict-of_step state mark reply e.0.0) effect
+effect-of_step old new session (asks_why name mark) reply effect = in_trace-of_step (trace_named old name) _ reply (λ state e. verdict-of_step state mark reply e.0.0) effect
+effect-of_step old new session (asks_cycle name mark) reply effect = in_trace-of_step (trace_named old name) _ reply (λ state e. cycle-of_step state mark reply e.0) effect
 effect-of_step old new session (shows name p) reply effect = in_trace-of_step (trace_named old name) _ reply (λ state e. as_of_step reply (ops _) e.0 refl) effect
 effect-of_step old new session lists reply effect = as_of_step reply (listed _) effect.0 refl
 effect-of_step old new session (closes name) reply effect = as_of_step reply done effect.0 refl

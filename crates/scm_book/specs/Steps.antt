@@ -11,11 +11,11 @@ use Rattle.scm_lowering.specs.declared.access.Access.{Access}
 use Rattle.scm_lowering.specs.Lowering.{lowered}
 use Rattle.scm_frontier.specs.Situated.{Situated}
 use Rattle.scm_book.specs.declared.call.Decl.{Decl}
-use Rattle.scm_book.specs.Calls.{CallData, opens, claims, releases, reports, sets_mark, goes_back, raises, asks, asks_why, shows, lists, closes, ReplyData, done, marked, inconsistent, because, ops, listed, refused}
+use Rattle.scm_book.specs.Calls.{CallData, opens, claims, releases, reports, sets_mark, goes_back, raises, asks, asks_why, asks_cycle, shows, lists, closes, ReplyData, done, marked, inconsistent, because, ops, listed, refused}
 use Rattle.scm_book.specs.Machine.{Machine, TraceState, new_trace, trace_named, with_trace, without_trace, trace_names, trace_in}
 use Rattle.scm_book.specs.Showing.{shown_operations}
 use Rattle.scm_book.specs.Refusals.{declared_cells, refusal_of}
-use Rattle.scm_book.specs.Verdicts.{Fits}
+use Rattle.scm_book.specs.Verdicts.{Fits, FitsCycle}
 
 -- the trace of this name is there, and this holds of it
 abbrev pub InTrace : Machine → List ℕ → (TraceState → Type 0) → Type 0
@@ -78,6 +78,10 @@ Asks state mark reply =
 abbrev pub AsksWhy : TraceState → Option ℕ → ReplyData → Type 0
 AsksWhy state mark reply = IsAbout state mark (λ t. Fits state.cells t state.budget reply) × (reply ≢ inconsistent)
 
+-- a short refutation of the trace, or the word that none was found
+abbrev pub AsksCycle : TraceState → Option ℕ → ReplyData → Type 0
+AsksCycle state mark reply = IsAbout state mark (λ t. FitsCycle t reply)
+
 -- what a session's call with this reply makes of the machine where it is not refused
 abbrev pub HasEffect : Machine → ℕ → CallData → ReplyData → Machine → Type 0
 HasEffect old session (opens name procs budget decls) reply new = Opens old session name procs budget decls reply new
@@ -89,6 +93,7 @@ HasEffect old session (goes_back name m) reply new = GoesBack old name m reply n
 HasEffect old session (raises name n) reply new = Raises old name n reply new
 HasEffect old session (asks name mark) reply new = InTrace old name (λ state. Asks state mark reply × (new ≡ old))
 HasEffect old session (asks_why name mark) reply new = InTrace old name (λ state. AsksWhy state mark reply × (new ≡ old))
+HasEffect old session (asks_cycle name mark) reply new = InTrace old name (λ state. AsksCycle state mark reply × (new ≡ old))
 HasEffect old session (shows name p) reply new =
     InTrace old name (λ state. (reply ≡ ops (shown_operations state p)) × (new ≡ old))
 HasEffect old session lists reply new = (reply ≡ listed (trace_names old)) × (new ≡ old)

@@ -1,6 +1,6 @@
 //! The book of open traces.
 ghost use Rattle.std.specs.Prelude.{◌≡◌, ◌≢◌, ◌↔◌, ◌+◌, ◌-◌, [], false, map, None, Some, true, is_ok, IsTrue, IfOk, IfSome, IsSomeAnd, MatchResult};
-ghost use Rattle.scm_book.specs.Calls.{call_data, reply_data, entry_data, opens, claims, releases, reports, sets_mark, goes_back, raises, asks, asks_why, shows, lists, closes, refused};
+ghost use Rattle.scm_book.specs.Calls.{call_data, reply_data, entry_data, opens, claims, releases, reports, sets_mark, goes_back, raises, asks, asks_why, asks_cycle, shows, lists, closes, refused};
 ghost use Rattle.scm_sequences.specs.declared.refusal.Refusal.TheVariants.{BadLine, TooManySessions};
 ghost use Rattle.scm_book.specs.Machine.{empty_machine};
 ghost use Rattle.scm_book.specs.Sets.{HasRoom, HasRoomFor, HoldsFor, LeavesSets, SearchesSet};
@@ -322,6 +322,17 @@ impl Book {
     {
         let (reply, _) = self.make(session, Call::Why { name, mark }, None, steps);
         reply
+    }
+
+    /// A short refutation of the trace, as it is or as it stood at a mark: orders that every legal schedule would have to
+    /// keep, of which the last puts an operation before itself. `Unknown` where none is found, which says nothing: so it is
+    /// where the trace is consistent. It makes no step and leaves alone what questions found out. Refused `NoSuchTrace`,
+    /// `NoSuchMark`.
+    pub fn cycle(&mut self, session: u16, name: Name, mark: Option<u64>) -> Reply
+        ensures called { IsCall self.old session (asks_cycle name mark) (reply_data result) self.new }
+        ensures legal { IsLegalBook self.new }
+    {
+        self.call(session, Call::Cycle { name, mark })
     }
 
     /// The operations of a process, as they are stored. Refused `NoSuchTrace`, `NoSuchProcess`.

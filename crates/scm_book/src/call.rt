@@ -64,6 +64,11 @@ pub enum Call {
         name: Name,
         mark: Option<u64>,
     },
+    /// Asks for a short refutation of a trace, as it is or as it stood at a mark.
+    Cycle {
+        name: Name,
+        mark: Option<u64>,
+    },
     /// Shows the operations of a process of a trace.
     ShowOps {
         name: Name,
@@ -125,6 +130,10 @@ impl Call {
                 mark: *mark,
             },
             Call::Why { name, mark } => Call::Why {
+                name: *name,
+                mark: *mark,
+            },
+            Call::Cycle { name, mark } => Call::Cycle {
                 name: *name,
                 mark: *mark,
             },

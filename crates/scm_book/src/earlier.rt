@@ -4,27 +4,50 @@ use crate::Reply;
 use scm_sequences::Lengths;
 use std::alloc::Global;
 
-/// The longest schedule that was found for a trace, and where none was found. It is no part of the machine, and nothing
-/// rests on it: what a proposal makes of it is judged anew.
+/// The longest schedule that was found for a trace, where none was found, and the order in which its operations were
+/// reported. It is no part of the machine, and nothing rests on it: what a proposal makes of it is judged anew.
 #[derive(Drop)]
 pub(crate) struct Earlier {
     schedule: Vec<u8>,
+    /// The process of each operation, in the order of the reports, which is often that of their happening. `None` once
+    /// memory was refused for it.
+    reported: Option<Vec<u8>>,
     /// At how many operations no schedule was found. Nothing changed since, for any lengths with as many operations: the
     /// lengths that a trace can be asked about lie within one another.
     failed: Option<u64>,
 }
 
 impl Earlier {
-    /// No schedule yet.
+    /// No schedule and no operation yet.
     pub(crate) fn new(alloc: Global) -> Earlier {
         Earlier {
             schedule: Vec::new(alloc),
+            reported: Some(Vec::new(alloc)),
             failed: None,
         }
     }
 
     pub(crate) fn schedule(&self) -> &[u8] {
         &self.schedule
+    }
+
+    /// An operation of this process was reported.
+    pub(crate) fn report(&mut self, process: usize) {
+        if self.keep_report(process).is_none() {
+            self.reported = None;
+        }
+    }
+
+    fn keep_report(&mut self, process: usize) -> Option<()> {
+        let place = u8::try_from(process).ok()?;
+        self.reported.as_mut()?.push(place).ok()
+    }
+
+    /// The operations within the lengths, in the order in which they were reported: the first ones, since a trace can be asked
+    /// about as it is or as it stood.
+    pub(crate) fn reported(&self, lengths: &Lengths) -> Option<&[u8]> {
+        let reported = self.reported.as_ref()?;
+        reported.get(..operations_in(lengths) as usize)
     }
 
     /// Whether no schedule was found at these lengths, and nothing changed since.
@@ -51,9 +74,14 @@ impl Earlier {
         }
     }
 
-    /// The trace is cut to these lengths. Of the schedule no more is kept than a schedule of them has.
+    /// The trace is cut to these lengths. Of the schedule no more is kept than a schedule of them has; of the reports, the
+    /// first ones, which led to these lengths.
     pub(crate) fn cut(&mut self, lengths: &Lengths) {
-        self.schedule.truncate(operations_in(lengths) as usize);
+        let operations = operations_in(lengths) as usize;
+        self.schedule.truncate(operations);
+        if let Some(reported) = &mut self.reported {
+            reported.truncate(operations);
+        }
         self.failed = None;
     }
 

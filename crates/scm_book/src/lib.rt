@@ -3,6 +3,7 @@
 
 mod book;
 mod call;
+mod cycle;
 mod declarations;
 mod earlier;
 mod entry;

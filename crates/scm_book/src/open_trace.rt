@@ -12,6 +12,7 @@ ghost use Rattle.scm_book.specs.Refusals.{trace_cause, claim_cause, release_caus
 ghost use Rattle.scm_book.specs.Showing.{shown_operations};
 
 mod asking;
+mod refuting;
 mod working;
 
 use crate::declarations::declare_cells;
@@ -39,7 +40,7 @@ pub(crate) struct OpenTrace {
     marks: Marks,
     // What questions and outcomes found out stays for the next questions.
     reach: Reach,
-    // So does the last schedule, for their proposals.
+    // So do the last schedule and the order of the reports, for their proposals.
     earlier: Earlier,
 }
 
@@ -153,6 +154,7 @@ impl OpenTrace {
         let op = lower(&self.cells, access)?;
         self.sequences.push(process, op)?;
         self.reach.grown(process);
+        self.earlier.report(process);
         Ok(())
     }
 

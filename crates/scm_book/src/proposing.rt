@@ -39,9 +39,44 @@ impl Question<'_> {
         Some(is_near_end(counts, &mut contents, self.sequences, self.lengths, room))
     }
 
+    /// The order in which the operations were reported, which is a schedule where it is that of their happening.
+    fn as_reported(&self) -> Option<Vec<u8>> {
+        Vec::from_slice(self.alloc, self.earlier.reported(self.lengths)?).ok()
+    }
+
+    /// What the heuristic proposes.
+    fn proposed(&self) -> Option<Vec<u8>> {
+        let initials = self.cells.initials().ok()?;
+        let earlier = self.earlier.schedule();
+        propose(
+            self.alloc,
+            &initials,
+            self.sequences,
+            self.lengths,
+            earlier,
+            self.limit,
+        )
+    }
+
+    /// This proposal, where it is legal.
+    fn judged(&self, proposal: Option<Vec<u8>>) -> Option<Vec<u8>>
+        requires within { IsWithin self.now.lengths.now (lengths_of self.now.sequences.now) }
+        requires names { NamesCellsBelow (length (initials_of self.now.cells.now)) self.now.sequences.now }
+        ensures { IfSome result (λ schedule. IsSchedule (cut_to (trace_of (initials_of self.now.cells.now) self.now.sequences.now) self.now.lengths.now) (reverse schedule.items)) }
+    {
+        let schedule = proposal?;
+        prove!(self.cells.len() <= MOST_CELLS);
+        let initials = self.cells.initials().ok()?;
+        if is_legal(&initials, self.sequences, self.lengths, &schedule) {
+            Some(schedule)
+        } else {
+            None
+        }
+    }
+
     /// A legal schedule of the trace, where one was proposed. `None` also where the set has the answer already or is near to
     /// it, where no proposal was legal, where none was legal before and nothing changed, and where memory is refused.
-    fn proposed(&self, reach: &Reach) -> Option<Vec<u8>>
+    fn legal_proposal(&self, reach: &Reach) -> Option<Vec<u8>>
         requires within { IsWithin self.now.lengths.now (lengths_of self.now.sequences.now) }
         requires names { NamesCellsBelow (length (initials_of self.now.cells.now)) self.now.sequences.now }
         ensures { IfSome result (λ schedule. IsSchedule (cut_to (trace_of (initials_of self.now.cells.now) self.now.sequences.now) self.now.lengths.now) (reverse schedule.items)) }
@@ -55,21 +90,9 @@ impl Question<'_> {
         if self.is_search_short(reach)? {
             return None;
         }
-        prove!(self.cells.len() <= MOST_CELLS);
-        let initials = self.cells.initials().ok()?;
-        let earlier = self.earlier.schedule();
-        let schedule = propose(
-            self.alloc,
-            &initials,
-            self.sequences,
-            self.lengths,
-            earlier,
-            self.limit,
-        )?;
-        if is_legal(&initials, self.sequences, self.lengths, &schedule) {
-            Some(schedule)
-        } else {
-            None
+        match self.judged(self.as_reported()) {
+            Some(schedule) => Some(schedule),
+            None => self.judged(self.proposed()),
         }
     }
 
@@ -81,7 +104,7 @@ impl Question<'_> {
         ensures known { IfSome result (λ reply. (members : List Member) (made : ℕ) → IsKnownBy (reply_data reply) self.now.sequences.now self.now.lengths.now members made members made) }
         ensures wanted { IfSome result (λ reply. IsAsWanted self.now.explains (reply_data reply)) }
     {
-        let schedule = self.proposed(reach)?;
+        let schedule = self.legal_proposal(reach)?;
         let Ok(fixed) = fixed_names(self.alloc, self.cells, self.sequences, &schedule) else {
             return None;
         };

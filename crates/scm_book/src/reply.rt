@@ -6,6 +6,7 @@ ghost use Rattle.scm_book.specs.Changes.{tells_of_change};
 
 use scm_cells::Name;
 use scm_frontier::Situation;
+use scm_orders::Edge;
 use scm_sequences::{NoMemory, Op, Refusal};
 use std::alloc::Global;
 
@@ -34,6 +35,11 @@ pub enum Reply {
     Undecided,
     /// No legal schedule exists: all situations that can be reached, in order.
     Because(Vec<Situation>),
+    /// No legal schedule exists: orders that every one would have to keep, of which the last puts an operation before
+    /// itself.
+    Cycle(Vec<Edge>),
+    /// No short refutation was found, which says nothing.
+    Unknown,
     /// The operations of a process, in order.
     Ops(Vec<Shown>),
     /// The names of the open traces, in the order of their opening.
@@ -70,6 +76,8 @@ impl Reply {
             Reply::Because(situations) => {
                 Reply::Because(copy_all(*situations.allocator(), situations)?)
             }
+            Reply::Cycle(edges) => Reply::Cycle(edges.clone()?),
+            Reply::Unknown => Reply::Unknown,
             Reply::Ops(operations) => Reply::Ops(operations.clone()?),
             Reply::Traces(names) => Reply::Traces(names.clone()?),
             Reply::Refused(refusal) => Reply::Refused(*refusal),

@@ -2,7 +2,7 @@
 ghost use Rattle.std.specs.Prelude.{◌≡◌, ◌↔◌, [], IfOk, IsTrue};
 ghost use Rattle.std.specs.Map.{remove_entry};
 ghost use Rattle.scm_cells.specs.Names.{name_eq};
-ghost use Rattle.scm_book.specs.Calls.{call_data, reply_data, opens, claims, releases, reports, sets_mark, goes_back, raises, asks, asks_why, shows, lists, closes};
+ghost use Rattle.scm_book.specs.Calls.{call_data, reply_data, opens, claims, releases, reports, sets_mark, goes_back, raises, asks, asks_why, asks_cycle, shows, lists, closes};
 ghost use Rattle.scm_book.specs.Machine.{trace_names};
 ghost use Rattle.scm_book.specs.Sets.{machine_in, sets_in, HasRoom, HasRoomFor, HoldsFor, IfDone, HasNewSet, CutsSet, SearchesSet, LeavesSets};
 ghost use Rattle.scm_book.specs.Steps.{IsStepOrNoMemory};
@@ -175,6 +175,19 @@ impl Traces {
         }
     }
 
+    fn cycle(&mut self, session: u16, name: Name, mark: Option<u64>) -> Reply
+        ensures step { IsStepOrNoMemory (machine_in self.old) session (asks_cycle name mark) (reply_data result) (machine_in self.new) }
+        ensures sets { sets_in self.new ≡ sets_in self.old }
+    {
+        let Some(trace) = self.traces.get(&name) else {
+            return Reply::Refused(Refusal::NoSuchTrace);
+        };
+        match trace.cycle(self.alloc, mark) {
+            Ok(reply) => reply,
+            Err(refusal) => Reply::Refused(refusal),
+        }
+    }
+
     fn show(&mut self, session: u16, name: Name, process: u64) -> Reply
         ensures step { IsStepOrNoMemory (machine_in self.old) session (shows name process) (reply_data result) (machine_in self.new) }
         ensures sets { sets_in self.new ≡ sets_in self.old }
@@ -275,6 +288,7 @@ impl Traces {
             Call::RaiseBudget { name, budget } => self.raise(session, *name, *budget),
             Call::Ask { name, mark } => self.ask(session, *name, *mark, steps),
             Call::Why { name, mark } => self.why(session, *name, *mark, steps),
+            Call::Cycle { name, mark } => self.cycle(session, *name, *mark),
             Call::ShowOps { name, process } => self.show(session, *name, *process),
             Call::ListTraces => self.list(session),
             Call::CloseTrace { name } => self.close(session, *name),

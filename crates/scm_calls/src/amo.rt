@@ -32,15 +32,15 @@ fn stores(rt: HostRuntime) {
             Some((kind, Width::D)) => Some(apply(kind, Width::D, 5, u64::MAX - 1)),
             None => None,
         };
-        assert_eq!(rt; stored, Some(*want), "at {i}");
+        assert!(rt; stored == Some(*want), "at {i}");
     }
-    assert_eq!(rt; at(18), None);
+    assert!(rt; at(18) == None);
 }
 
 #[test]
 fn names(rt: HostRuntime) {
-    assert_eq!(rt; name(AmoKind::Swap, Width::W), "amoswap.w");
-    assert_eq!(rt; name(AmoKind::MaxU, Width::D), "amomaxu.d");
+    assert!(rt; name(AmoKind::Swap, Width::W) == "amoswap.w");
+    assert!(rt; name(AmoKind::MaxU, Width::D) == "amomaxu.d");
     let swap = Some((AmoKind::Swap, Width::W));
     for word in [
         "amoswap.w",
@@ -48,9 +48,9 @@ fn names(rt: HostRuntime) {
         "amoswap.w.rl",
         "amoswap.w.aqrl",
     ] {
-        assert_eq!(rt; read_name(word.as_bytes()), swap, "{word}");
+        assert!(rt; read_name(word.as_bytes()) == swap, "{word}");
     }
-    assert_eq!(rt; read_name(b"amominu.d.rl"), Some((AmoKind::MinU, Width::D)));
+    assert!(rt; read_name(b"amominu.d.rl") == Some((AmoKind::MinU, Width::D)));
     for word in [
         "amoswap.w.aq.rl",
         "amoswap",
@@ -59,6 +59,6 @@ fn names(rt: HostRuntime) {
         "amoswap.w.",
         "amoswap.w.rlaq",
     ] {
-        assert_eq!(rt; read_name(word.as_bytes()), None, "{word}");
+        assert!(rt; read_name(word.as_bytes()) == None, "{word}");
     }
 }

@@ -208,7 +208,7 @@ fn words(rt: HostRuntime) {
     for (old, operand, stored) in WORDS.iter() {
         for (kind, want) in KINDS.iter().zip(stored.iter()) {
             let got = apply(*kind, Width::W, u64::from(*old), u64::from(*operand));
-            assert_eq!(rt; got, u64::from(*want), "{kind:?} of {old} and {operand}");
+            assert!(rt; got == u64::from(*want), "{kind:?} of {old} and {operand}");
         }
     }
 }
@@ -218,7 +218,7 @@ fn double_words(rt: HostRuntime) {
     for (old, operand, stored) in DOUBLE_WORDS.iter() {
         for (kind, want) in KINDS.iter().zip(stored.iter()) {
             let got = apply(*kind, Width::D, *old, *operand);
-            assert_eq!(rt; got, *want, "{kind:?} of {old} and {operand}");
+            assert!(rt; got == *want, "{kind:?} of {old} and {operand}");
         }
     }
 }

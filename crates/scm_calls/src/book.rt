@@ -1,14 +1,14 @@
 //! The calls on their happy paths. The worked rows have every refusal.
 
-use crate::words::{ANNA, BERT, cell, is_done, load, name, store};
-use scm_book::{Book, Call, Event, Reply, run_events};
+use crate::traces::{read, sequences_of, write};
+use crate::words::{ANNA, BERT, add_call, cell, is_done, load, name, store};
+use scm_book::{Book, Call, Entry, Event, Reply, run_events};
 use scm_cells::Name;
 use scm_frontier::Situation;
 use scm_schedules::{is_legal, refutes};
-use scm_sequences::{Op, Refusal, Sequences};
+use scm_sequences::{Refusal, Sequences};
 use std::alloc::Global;
 use std::process::Abort;
-use std::test::Fail;
 
 fn ask(book: &mut Book, session: u16, name: Name, mark: Option<u64>) -> Reply {
     book.call(session, Call::Ask { name, mark })
@@ -31,7 +31,7 @@ fn assert_refused(rt: &impl Abort, reply: Reply, refusal: Refusal) {
     let Reply::Refused(given) = reply else {
         panic!(rt; "not refused");
     };
-    assert_eq!(rt; given, refusal);
+    assert!(rt; given == refusal);
 }
 
 /// Opens the trace t of two processes, which Anna and Bert claim, with the cells x and y.
@@ -53,116 +53,132 @@ fn pass_message(rt: &impl Abort, book: &mut Book, last: u64) {
 }
 
 // What the reports of a passed message are: the cell x has the number 0, y the number 1.
-fn passed_message(alloc: Global, last: u64) -> Result<Sequences, Fail> {
-    let mut sequences = Sequences::new(alloc, 2)?;
-    sequences.push(0, Op::W { cell: 0, value: 1 })?;
-    sequences.push(0, Op::W { cell: 1, value: 1 })?;
-    sequences.push(1, Op::R { cell: 1, value: 1 })?;
-    sequences.push(
-        1,
-        Op::R {
-            cell: 0,
-            value: last,
-        },
-    )?;
-    Ok(sequences)
+fn passed_message(rt: &impl Abort, alloc: Global, last: u64) -> Sequences {
+    let operations = [
+        (0, write(0, 1)),
+        (0, write(1, 1)),
+        (1, read(1, 1)),
+        (1, read(0, last)),
+    ];
+    sequences_of(rt, alloc, 2, &operations)
 }
 
 /// What the cells of `open_two` hold at first.
 const INITIALS: [Option<u64>; 2] = [Some(0), Some(0)];
 
 /// What the checkers say of a schedule of the passed message, which ends with this load.
-fn is_legal_message(alloc: Global, last: u64, schedule: &[u8]) -> Result<bool, Fail> {
-    let sequences = passed_message(alloc, last)?;
+fn is_legal_message(rt: &impl Abort, alloc: Global, last: u64, schedule: &[u8]) -> bool {
+    let sequences = passed_message(rt, alloc, last);
     let lengths = sequences.lengths();
-    Ok(
-        sequences.names_cells_below(INITIALS.len())
-            && lengths.within(&sequences.lengths())
-            && is_legal(&INITIALS, &sequences, &lengths, schedule),
-    )
+    sequences.names_cells_below(INITIALS.len())
+        && lengths.within(&sequences.lengths())
+        && is_legal(&INITIALS, &sequences, &lengths, schedule)
 }
 
 /// And of a refutation.
-fn refutes_message(alloc: Global, last: u64, situations: &[Situation]) -> Result<bool, Fail> {
-    let sequences = passed_message(alloc, last)?;
+fn refutes_message(rt: &impl Abort, alloc: Global, last: u64, situations: &[Situation]) -> bool {
+    let sequences = passed_message(rt, alloc, last);
     let lengths = sequences.lengths();
-    if !sequences.names_cells_below(INITIALS.len()) || !lengths.within(&sequences.lengths()) {
-        return Ok(false);
-    }
-    Ok(refutes(alloc, &INITIALS, &sequences, &lengths, situations)?)
+    sequences.names_cells_below(INITIALS.len())
+        && lengths.within(&sequences.lengths())
+        && refutes(alloc, &INITIALS, &sequences, &lengths, situations).expect(rt, "memory")
 }
 
-// A message that passes is consistent; one that is lost is refuted.
+/// A message that passes is consistent.
+fn judge_passed(rt: &impl Abort, alloc: Global, reply: Reply) {
+    let Reply::Consistent { schedule, .. } = reply else {
+        panic!(rt; "not consistent");
+    };
+    assert!(rt; schedule.as_slice() == [0, 0, 1, 1].as_slice());
+    assert!(rt; is_legal_message(rt, alloc, 1, &schedule));
+}
+
+/// One that is lost is refuted.
+fn judge_lost(rt: &impl Abort, alloc: Global, reply: &Reply) {
+    let Reply::Because(situations) = reply.copy().expect(rt, "memory") else {
+        panic!(rt; "not refuted");
+    };
+    assert!(rt; situations.len() == 4);
+    assert!(rt; refutes_message(rt, alloc, 0, &situations));
+}
+
+/// How many edges the reply has.
+fn edges_in(reply: &Reply) -> Option<usize> {
+    match reply {
+        Reply::Cycle(edges) => Some(edges.len()),
+        _ => None,
+    }
+}
+
+// The rows of scm_rows hand such lists to their judge.
 #[test]
-fn messages_are_judged(rt: HostRuntime) -> Result<(), Fail> {
+fn a_lost_message_has_a_short_refutation(rt: HostRuntime) {
+    let mut book = Book::new(rt.alloc());
+    open_two(&rt, &mut book, 1);
+    pass_message(&rt, &mut book, 0);
+    let reply = book.cycle(BERT, name(&rt, b"t"), None);
+    assert!(rt; edges_in(&reply) == Some(6));
+}
+
+#[test]
+fn messages_are_judged(rt: HostRuntime) {
     let mut book = Book::new(rt.alloc());
     open_two(&rt, &mut book, 100);
     let t = name(&rt, b"t");
     assert!(rt; matches!(book.mark(ANNA, t), Reply::MarkSet(0)));
     pass_message(&rt, &mut book, 1);
-    let Reply::Consistent { schedule, .. } = ask(&mut book, BERT, t, None) else {
-        return Err("not consistent".into());
-    };
-    assert_eq!(rt; schedule.as_slice(), [0, 0, 1, 1].as_slice());
-    assert!(rt; is_legal_message(rt.alloc(), 1, &schedule)?);
+    judge_passed(&rt, rt.alloc(), ask(&mut book, BERT, t, None));
     assert!(rt; is_done(book.back(ANNA, t, 0)));
     pass_message(&rt, &mut book, 0);
     assert!(rt; matches!(ask(&mut book, ANNA, t, None), Reply::Inconsistent));
-    let Reply::Because(situations) = why(&mut book, ANNA, t, None).copy()? else {
-        return Err("not refuted".into());
-    };
-    assert_eq!(rt; situations.len(), 4);
-    assert!(rt; refutes_message(rt.alloc(), 0, &situations)?);
-    Ok(())
+    judge_lost(&rt, rt.alloc(), &why(&mut book, ANNA, t, None));
 }
 
 /// Makes a copy of a call, which is done, and answers with the reply to the call itself.
-fn call_twice(rt: &impl Abort, book: &mut Book, call: Call) -> Result<Reply, Fail> {
-    assert!(rt; is_done(book.call(ANNA, call.copy()?)));
-    Ok(book.call(ANNA, call))
+fn call_twice(rt: &impl Abort, book: &mut Book, call: Call) -> Reply {
+    let copy = call.copy().expect(rt, "memory");
+    assert!(rt; is_done(book.call(ANNA, copy)));
+    book.call(ANNA, call)
 }
 
 /// Asks about t by a copy of the call, and checks that the verdict can be copied, and that both are kept.
-fn ask_kept(rt: &impl Abort, book: &mut Book, ask: &Call) -> Result<(), Fail> {
-    let (verdict, kept) = book.call_kept(ANNA, ask.copy()?);
-    assert!(rt; matches!(verdict.copy()?, Reply::Consistent { .. }));
+fn ask_kept(rt: &impl Abort, book: &mut Book, ask: &Call) {
+    let (verdict, kept) = book.call_kept(ANNA, ask.copy().expect(rt, "memory"));
+    let copy = verdict.copy().expect(rt, "memory");
+    assert!(rt; matches!(copy, Reply::Consistent { .. }));
     assert!(rt; matches!(kept, Some((Call::Ask { .. }, Reply::Consistent { .. }))));
-    Ok(())
+}
+
+fn call_to_open(rt: &impl Abort, alloc: Global, name: Name) -> Call {
+    Call::OpenTrace {
+        name,
+        procs: 1,
+        budget: 1,
+        cells: vec![in alloc; cell(rt, b"x")].expect(rt, "memory"),
+    }
 }
 
 #[test]
-fn calls_are_copied_and_made(rt: HostRuntime) -> Result<(), Fail> {
-    let t = name(&rt, b"t");
+fn calls_are_copied_and_made(rt: HostRuntime) {
+    let name = name(&rt, b"t");
+    let process = 0;
     let mut book = Book::new(rt.alloc());
-    let open = Call::OpenTrace {
-        name: t,
-        procs: 1,
-        budget: 1,
-        cells: vec![in rt.alloc(); cell(&rt, b"x")]?,
-    };
-    let again = call_twice(&rt, &mut book, open)?;
-    assert_refused(&rt, again, Refusal::NameTaken);
-    let claim = Call::ClaimProcess {
-        name: t,
-        process: 0,
-    };
-    let again = call_twice(&rt, &mut book, claim)?;
-    assert_refused(&rt, again, Refusal::ProcessTaken);
-    let report = Call::Report {
-        name: t,
-        process: 0,
-        access: load(&rt, b"x", 0),
-    };
-    let again = call_twice(&rt, &mut book, report)?;
-    assert!(rt; is_done(again));
-    ask_kept(
+    let open = call_to_open(&rt, rt.alloc(), name);
+    assert_refused(&rt, call_twice(&rt, &mut book, open), Refusal::NameTaken);
+    let claim = Call::ClaimProcess { name, process };
+    assert_refused(
         &rt,
-        &mut book,
-        &Call::Ask {
-            name: t,
-            mark: None,
-        },
-    )
+        call_twice(&rt, &mut book, claim),
+        Refusal::ProcessTaken,
+    );
+    let access = load(&rt, b"x", 0);
+    let report = Call::Report {
+        name,
+        process,
+        access,
+    };
+    assert!(rt; is_done(call_twice(&rt, &mut book, report)));
+    ask_kept(&rt, &mut book, &Call::Ask { name, mark: None });
 }
 
 // Under a budget of 1 the lost message is undecided.
@@ -206,67 +222,68 @@ fn a_schedule_is_gone_on_from(rt: HostRuntime) {
     assert!(rt; is_done(book.report(BERT, t, 1, &store(&rt, b"x", 1))));
     assert!(rt; matches!(book.mark(ANNA, t), Reply::MarkSet(0)));
     assert!(rt; is_done(book.report(ANNA, t, 0, &load(&rt, b"x", 0))));
-    assert_eq!(rt; schedule_length(&rt, ask(&mut book, ANNA, t, None)), 2);
-    assert_eq!(rt; schedule_length(&rt, ask(&mut book, ANNA, t, Some(0))), 1);
-    assert_eq!(rt; schedule_length(&rt, ask(&mut book, ANNA, t, None)), 2);
+    assert!(rt; schedule_length(&rt, ask(&mut book, ANNA, t, None)) == 2);
+    assert!(rt; schedule_length(&rt, ask(&mut book, ANNA, t, Some(0))) == 1);
+    assert!(rt; schedule_length(&rt, ask(&mut book, ANNA, t, None)) == 2);
     for value in 2..6 {
         pass_value(&rt, &mut book, value);
         assert!(rt; schedule_length(&rt, why(&mut book, BERT, t, None)) >= 4);
     }
     assert!(rt; is_done(book.back(ANNA, t, 0)));
     pass_value(&rt, &mut book, 9);
-    assert_eq!(rt; schedule_length(&rt, ask(&mut book, ANNA, t, None)), 3);
-    assert_eq!(rt; schedule_length(&rt, ask(&mut book, ANNA, t, Some(0))), 1);
+    assert!(rt; schedule_length(&rt, ask(&mut book, ANNA, t, None)) == 3);
+    assert!(rt; schedule_length(&rt, ask(&mut book, ANNA, t, Some(0))) == 1);
+}
+
+/// How many traces a copy of the reply lists.
+fn count_listed(rt: &impl Abort, reply: &Reply) -> usize {
+    match reply.copy().expect(rt, "memory") {
+        Reply::Traces(names) => names.len(),
+        _ => panic!(rt; "not listed"),
+    }
 }
 
 #[test]
-fn traces_are_released_listed_and_closed(rt: HostRuntime) -> Result<(), Fail> {
+fn traces_are_released_listed_and_closed(rt: HostRuntime) {
     let mut book = Book::new(rt.alloc());
     open_two(&rt, &mut book, 100);
     let t = name(&rt, b"t");
     assert!(rt; is_done(book.release(ANNA, t, 0)));
     assert!(rt; is_done(book.claim(BERT, t, 0)));
-    let Reply::Traces(names) = book.list(BERT).copy()? else {
-        return Err("not listed".into());
-    };
-    assert_eq!(rt; names.len(), 1);
+    assert!(rt; count_listed(&rt, &book.list(BERT)) == 1);
     assert_refused(&rt, book.close(BERT, t), Refusal::NotOwner);
     assert!(rt; is_done(book.close(ANNA, t)));
     assert_refused(&rt, ask(&mut book, ANNA, t, None), Refusal::NoSuchTrace);
-    Ok(())
+}
+
+/// Two calls of Anna, and one of Bert between them.
+fn three_calls(rt: &impl Abort, alloc: Global) -> Vec<Event> {
+    let name = name(rt, b"t");
+    let mark = Some(0);
+    let mut events = Vec::new(alloc);
+    add_call(rt, &mut events, ANNA, Call::ListTraces);
+    add_call(rt, &mut events, BERT, Call::CloseTrace { name });
+    add_call(rt, &mut events, ANNA, Call::Ask { name, mark });
+    events
+}
+
+/// Whether the entries have these numbers.
+fn are_numbered(entries: &[Entry], numbers: &[u64]) -> bool {
+    entries.len() == numbers.len()
+        && entries
+            .iter()
+            .zip(numbers.iter())
+            .all(|(entry, number)| entry.number == *number)
 }
 
 #[test]
-fn events_are_answered_and_entered(rt: HostRuntime) -> Result<(), Fail> {
-    let t = name(&rt, b"t");
-    let events = vec![in rt.alloc();
-        Event::CallBy {
-            session: ANNA,
-            call: Call::ListTraces
-        },
-        Event::CallBy {
-            session: BERT,
-            call: Call::CloseTrace { name: t }
-        },
-        Event::CallBy {
-            session: ANNA,
-            call: Call::Ask {
-                name: t,
-                mark: Some(0)
-            }
-        },
-    ]?;
+fn events_are_answered_and_entered(rt: HostRuntime) {
+    let events = three_calls(&rt, rt.alloc());
     let Ok((book, replies)) = run_events(rt.alloc(), Book::new(rt.alloc()), events) else {
-        return Err("no memory".into());
+        panic!(&rt; "no memory");
     };
-    assert_eq!(rt; replies.len(), 3);
+    assert!(rt; replies.len() == 3);
     assert!(rt; matches!(replies[0], Reply::Traces(_)));
-    let numbers: [u64; 3] = [0, 0, 1];
-    for (entry, number) in book.entries().iter().zip(numbers.iter()) {
-        assert_eq!(rt; entry.number, *number);
-    }
-    assert_eq!(rt; book.entries().len(), 3);
-    assert_eq!(rt; book.count_of(ANNA), 2);
-    assert_eq!(rt; book.count_of(BERT), 1);
-    Ok(())
+    assert!(rt; are_numbered(book.entries(), &[0, 0, 1]));
+    assert!(rt; book.count_of(ANNA) == 2 && book.count_of(BERT) == 1);
 }

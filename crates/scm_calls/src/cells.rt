@@ -30,70 +30,73 @@ fn three_cells(rt: &impl Abort, alloc: Global) -> Result<Cells, Refusal> {
     .enumerate()
     {
         let added = cells.add(name(rt, word), *width, initial(rt, first))?;
-        assert_eq!(rt; usize::from(added), place);
+        assert!(rt; usize::from(added) == place);
     }
     Ok(cells)
+}
+
+/// Whether cell 1 is y, and what cell 0 is.
+fn has_three_cells(rt: &impl Abort, cells: &Cells) -> bool {
+    cells.len() == 3
+        && cells.name(1) == name(rt, "y")
+        && cells.width(0) == Width::W
+        && cells.initial(0) == Some(4294967295)
 }
 
 #[test]
 fn adds_cells(rt: HostRuntime) -> Result<(), Fail> {
     let cells = three_cells(&rt, rt.alloc())?;
-    assert!(rt; cells.len() == 3);
-    assert!(rt; cells.name(1) == name(&rt, "y"));
-    assert_eq!(rt; cells.width(0), Width::W);
-    assert_eq!(rt; cells.initial(0), Some(4294967295));
+    assert!(rt; has_three_cells(&rt, &cells));
     let initials = cells.initials()?;
-    assert_eq!(rt;
-        initials.as_slice(),
-        [Some(4294967295), Some(7), None].as_slice()
-    );
+    assert!(rt; initials.as_slice() == [Some(4294967295), Some(7), None].as_slice());
     Ok(())
+}
+
+/// The place of each of these cells.
+fn places(rt: &impl Abort, cells: &Cells, words: [&str; 4]) -> [Option<u8>; 4] {
+    words.map(|word| cells.find(&name(rt, word)))
 }
 
 #[test]
 fn finds_cells(rt: HostRuntime) -> Result<(), Fail> {
     let cells = three_cells(&rt, rt.alloc())?;
-    for (word, place) in [
-        ("x", Some(0)),
-        ("y", Some(1)),
-        ("later", Some(2)),
-        ("z", None),
-    ] {
-        assert_eq!(rt; cells.find(&name(&rt, word)), place, "{word}");
-    }
+    let places = places(&rt, &cells, ["x", "y", "later", "z"]);
+    assert!(rt; places == [Some(0), Some(1), Some(2), None]);
     Ok(())
 }
 
 #[test]
-fn refuses_a_name_twice(rt: HostRuntime) -> Result<(), Fail> {
+fn refuses_a_name_twice(rt: HostRuntime) {
     let mut cells = Cells::new(rt.alloc());
-    cells.add(name(&rt, "x"), Width::W, given(1))?;
-    let again = cells.add(name(&rt, "x"), Width::D, given(2));
-    assert_eq!(rt; again, Err(Refusal::BadDeclaration));
-    assert_eq!(rt; cells.len(), 1);
-    Ok(())
+    let x = name(&rt, "x");
+    let first = cells.add(x, Width::W, given(1));
+    let again = cells.add(x, Width::D, given(2));
+    assert!(rt; first == Ok(0) && again == Err(Refusal::BadDeclaration));
+    assert!(rt; cells.len() == 1);
 }
 
 #[test]
 fn refuses_a_value_that_does_not_fit(rt: HostRuntime) {
     let mut cells = Cells::new(rt.alloc());
     let added = cells.add(name(&rt, "x"), Width::W, initial(&rt, "4294967296"));
-    assert_eq!(rt; added, Err(Refusal::BadDeclaration));
-    assert!(rt; cells.is_empty());
+    assert!(rt; added == Err(Refusal::BadDeclaration) && cells.is_empty());
+}
+
+/// Adds as many cells as the limit: a0, a1, ..
+fn fill(rt: &impl Abort, cells: &mut Cells) {
+    for i in 0..MOST_CELLS {
+        let word = [b'a' + (i / 10) as u8, b'0' + (i % 10) as u8];
+        let name = Name::read(&word).expect(rt, "a name");
+        assert!(rt; cells.add(name, Width::D, given(0)).is_ok());
+    }
 }
 
 #[test]
-fn refuses_a_cell_past_the_limit(rt: HostRuntime) -> Result<(), Fail> {
+fn refuses_a_cell_past_the_limit(rt: HostRuntime) {
     let mut cells = Cells::new(rt.alloc());
-    for i in 0..MOST_CELLS {
-        let name = Name::read(&[b'a' + (i / 10) as u8, b'0' + (i % 10) as u8]).expect(
-            &rt, "a name",
-        );
-        cells.add(name, Width::D, given(0))?;
-    }
-    assert_eq!(rt; cells.len(), 64);
+    fill(&rt, &mut cells);
+    assert!(rt; cells.len() == 64);
     let added = cells.add(name(&rt, "q"), Width::D, given(0));
-    assert_eq!(rt; added, Err(Refusal::BadDeclaration));
-    assert_eq!(rt; cells.find(&name(&rt, "g3")), Some(63));
-    Ok(())
+    assert!(rt; added == Err(Refusal::BadDeclaration));
+    assert!(rt; cells.find(&name(&rt, "g3")) == Some(63));
 }

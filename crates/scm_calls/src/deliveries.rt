@@ -1,6 +1,6 @@
 //! What workers take and deliver, between the calls of a session.
 
-use crate::words::{ANNA, cell, is_done, load, name, store};
+use crate::words::{ANNA, add_call, add_event, cell, is_done, load, name, store};
 use scm_book::{Book, Call, Event, Reply, run_events};
 use scm_expand::{Outcome, Task, expand};
 use scm_frontier::Steps;
@@ -9,7 +9,6 @@ use scm_results::{Fate, Results};
 use scm_sequences::Op;
 use std::alloc::Global;
 use std::process::Abort;
-use std::test::Fail;
 
 /// Anna claims each process of t.
 fn claim_all(rt: &impl Abort, book: &mut Book, procs: u64) {
@@ -65,8 +64,9 @@ fn next_outcome(rt: &impl Abort, book: &mut Book) -> Outcome {
     expanded(rt, take_one(rt, book).expect(rt, "a task"))
 }
 
-fn deliver_one(alloc: Global, book: &mut Book, outcome: Outcome) -> Result<Results, Fail> {
-    Ok(book.deliver(vec![in alloc; outcome]?))
+/// A list of one outcome.
+fn only(rt: &impl Abort, alloc: Global, outcome: Outcome) -> Vec<Outcome> {
+    vec![in alloc; outcome].expect(rt, "memory")
 }
 
 /// The totals of one outcome that met this fate.
@@ -74,6 +74,13 @@ fn one(fate: Fate) -> Results {
     let mut results = Results::new();
     results.deliver(fate);
     results
+}
+
+/// Delivers a copy of an outcome, which meets this fate.
+fn deliver(rt: &impl Abort, alloc: Global, book: &mut Book, outcome: &Outcome, fate: Fate) {
+    let copy = outcome.copy().expect(rt, "memory");
+    let results = book.deliver(only(rt, alloc, copy));
+    assert!(rt; results == one(fate));
 }
 
 fn is_same(task: &Task, other: &Task) -> bool {
@@ -94,15 +101,23 @@ fn ask(rt: &impl Abort, book: &mut Book) -> (Reply, u64) {
     (reply, steps.made())
 }
 
-/// Why t is not consistent, and how many steps that took.
-fn why(rt: &impl Abort, book: &mut Book) -> (Reply, u64) {
+/// How many steps it takes to find out that t is not consistent.
+fn steps_to_ask(rt: &impl Abort, book: &mut Book) -> u64 {
+    let (reply, steps) = ask(rt, book);
+    assert!(rt; matches!(reply, Reply::Inconsistent));
+    steps
+}
+
+/// How many steps it takes to find out why.
+fn steps_to_refute(rt: &impl Abort, book: &mut Book) -> u64 {
     let t = name(rt, b"t");
     let mut steps = Steps::new();
     if !book.has_room(&t, &steps) {
         panic!(rt; "no room");
     }
     let reply = book.why(ANNA, t, None, &mut steps);
-    (reply, steps.made())
+    assert!(rt; matches!(reply, Reply::Because(_)));
+    steps.made()
 }
 
 fn assert_schedule(rt: &impl Abort, reply: Reply, schedule: &[u8]) {
@@ -113,185 +128,177 @@ fn assert_schedule(rt: &impl Abort, reply: Reply, schedule: &[u8]) {
     else {
         panic!(rt; "not consistent");
     };
-    assert_eq!(rt; given.as_slice(), schedule);
+    assert!(rt; given.as_slice() == schedule);
     assert!(rt; fixed.is_empty());
 }
 
+/// Takes the next task and delivers what comes of it, if there is one.
+fn work_once(rt: &impl Abort, alloc: Global, book: &mut Book) -> bool {
+    let Some(task) = take_one(rt, book) else {
+        return false;
+    };
+    let _results = book.deliver(only(rt, alloc, expanded(rt, task)));
+    true
+}
+
 /// Takes one task after the other, and delivers what comes of it, while there is one.
-fn work_off(rt: &impl Abort, alloc: Global, book: &mut Book) -> Result<(), Fail> {
+fn work_off(rt: &impl Abort, alloc: Global, book: &mut Book) {
     for _ in 0..100 {
-        let Some(task) = take_one(rt, book) else {
-            return Ok(());
-        };
-        let _results = deliver_one(alloc, book, expanded(rt, task))?;
+        if !work_once(rt, alloc, book) {
+            return;
+        }
     }
-    Err("tasks without end".into())
+    panic!(rt; "tasks without end");
+}
+
+/// Closes t, and opens u, which is just as t was.
+fn go_to_another(rt: &impl Abort, book: &mut Book) {
+    assert!(rt; is_done(book.close(ANNA, name(rt, b"t"))));
+    let cells = [cell(rt, b"x")];
+    assert!(rt; is_done(book.open(ANNA, name(rt, b"u"), 1, 100, &cells)));
 }
 
 // An outcome is stale where its trace is gone, whatever else is open. It counts for a trace that was opened again, where it
 // is a step of that trace too.
 #[test]
-fn reopened(rt: HostRuntime) -> Result<(), Fail> {
+fn reopened(rt: HostRuntime) {
     let mut book = Book::new(rt.alloc());
     open_x(&rt, &mut book, 1, 100);
     report(&rt, &mut book, 0, store(&rt, b"x", 1));
     let outcome = next_outcome(&rt, &mut book);
-    let again = outcome.copy()?;
-    let stranger = outcome.copy()?;
-    assert!(rt; is_done(book.close(ANNA, name(&rt, b"t"))));
-    let cells = [cell(&rt, b"x")];
-    assert!(rt; is_done(book.open(ANNA, name(&rt, b"u"), 1, 100, &cells)));
-    assert_eq!(rt;
-        deliver_one(rt.alloc(), &mut book, stranger)?,
-        one(Fate::Stale)
-    );
+    go_to_another(&rt, &mut book);
+    deliver(&rt, rt.alloc(), &mut book, &outcome, Fate::Stale);
     open_x(&rt, &mut book, 1, 100);
     report(&rt, &mut book, 0, store(&rt, b"x", 1));
-    assert_eq!(rt;
-        deliver_one(rt.alloc(), &mut book, outcome)?,
-        one(Fate::Accepted)
-    );
-    assert_eq!(rt;
-        deliver_one(rt.alloc(), &mut book, again)?,
-        one(Fate::Known)
-    );
+    deliver(&rt, rt.alloc(), &mut book, &outcome, Fate::Accepted);
+    deliver(&rt, rt.alloc(), &mut book, &outcome, Fate::Known);
     let (reply, _) = ask(&rt, &mut book);
     assert_schedule(&rt, reply, &[0]);
-    Ok(())
+}
+
+fn assert_comes_again(rt: &impl Abort, first: &Task, second: &Task, third: &Task) {
+    assert!(rt; first.process == 0);
+    assert!(rt; first.process != second.process);
+    assert!(rt; is_same(third, first) || is_same(third, second));
+}
+
+/// Two tasks, which are different. A third one is one of them again.
+fn take_two(rt: &impl Abort, book: &mut Book) -> (Task, Task) {
+    let first = take_one(rt, book).expect(rt, "a first task");
+    let second = take_one(rt, book).expect(rt, "a second task");
+    let third = take_one(rt, book).expect(rt, "a task again");
+    assert_comes_again(rt, &first, &second, &third);
+    (first, second)
+}
+
+/// Delivers two outcomes at once. The set has room for the first alone.
+fn overfill(rt: &impl Abort, alloc: Global, book: &mut Book, first: Outcome, second: &Outcome) {
+    let second = second.copy().expect(rt, "memory");
+    let mut expected = one(Fate::Accepted);
+    expected.deliver(Fate::Full);
+    let results = book.deliver(vec![in alloc; first, second].expect(rt, "memory"));
+    assert!(rt; results == expected);
 }
 
 // Two takings give different tasks, and a third one of them again. Under a budget of 2 the outcome of the second finds the
 // set full, and room once the budget was raised.
 #[test]
-fn full_then_room(rt: HostRuntime) -> Result<(), Fail> {
+fn full_then_room(rt: HostRuntime) {
     let mut book = Book::new(rt.alloc());
     store_twice(&rt, &mut book);
-    let first = take_one(&rt, &mut book).expect(&rt, "a first task");
-    let second = take_one(&rt, &mut book).expect(&rt, "a second task");
-    let third = take_one(&rt, &mut book).expect(&rt, "a task again");
-    assert_eq!(rt; first.process, 0);
-    assert!(rt; first.process != second.process);
-    assert!(rt; is_same(&third, &first) || is_same(&third, &second));
+    let (first, second) = take_two(&rt, &mut book);
     let first = expanded(&rt, first);
     let second = expanded(&rt, second);
-    let again = second.copy()?;
-    let mut expected = one(Fate::Accepted);
-    expected.deliver(Fate::Full);
-    assert_eq!(rt; book.deliver(vec![in rt.alloc(); first, second]?), expected);
+    overfill(&rt, rt.alloc(), &mut book, first, &second);
     assert!(rt; is_done(book.raise(ANNA, name(&rt, b"t"), 5)));
-    assert_eq!(rt;
-        deliver_one(rt.alloc(), &mut book, again)?,
-        one(Fate::Accepted)
-    );
-    Ok(())
+    deliver(&rt, rt.alloc(), &mut book, &second, Fate::Accepted);
 }
 
 // A load of another value than its cell holds leads nowhere, and that is found out once.
 #[test]
-fn no_step(rt: HostRuntime) -> Result<(), Fail> {
+fn no_step(rt: HostRuntime) {
     let mut book = Book::new(rt.alloc());
     open_x(&rt, &mut book, 1, 100);
     report(&rt, &mut book, 0, load(&rt, b"x", 1));
     let outcome = next_outcome(&rt, &mut book);
     assert!(rt; outcome.next().is_none());
-    assert_eq!(rt;
-        deliver_one(rt.alloc(), &mut book, outcome)?,
-        one(Fate::Known)
-    );
+    deliver(&rt, rt.alloc(), &mut book, &outcome, Fate::Known);
     assert!(rt; take_one(&rt, &mut book).is_none());
-    Ok(())
+}
+
+/// Whether the task was that process 0 stores 1 in x.
+fn is_first_store(task: &Task) -> bool {
+    task.process == 0 && task.op == Op::W { cell: 0, value: 1 }
 }
 
 // The situation of an outcome is still there after a return, but another operation is the next one.
 #[test]
-fn late_outcome(rt: HostRuntime) -> Result<(), Fail> {
+fn late_outcome(rt: HostRuntime) {
     let mut book = Book::new(rt.alloc());
     open_x(&rt, &mut book, 2, 100);
     assert!(rt; matches!(book.mark(ANNA, name(&rt, b"t")), Reply::MarkSet(0)));
     report(&rt, &mut book, 0, store(&rt, b"x", 1));
     let outcome = next_outcome(&rt, &mut book);
-    assert_eq!(rt; outcome.task().process, 0);
-    assert_eq!(rt; outcome.task().op, Op::W { cell: 0, value: 1 });
-    let again = outcome.copy()?;
+    assert!(rt; is_first_store(outcome.task()));
     assert!(rt; is_done(book.back(ANNA, name(&rt, b"t"), 0)));
     report(&rt, &mut book, 0, store(&rt, b"x", 2));
-    assert_eq!(rt;
-        deliver_one(rt.alloc(), &mut book, outcome)?,
-        one(Fate::Stale)
-    );
+    deliver(&rt, rt.alloc(), &mut book, &outcome, Fate::Stale);
     report(&rt, &mut book, 1, load(&rt, b"x", 2));
     let (reply, _) = ask(&rt, &mut book);
     assert_schedule(&rt, reply, &[0, 1]);
-    assert_eq!(rt;
-        deliver_one(rt.alloc(), &mut book, again)?,
-        one(Fate::Stale)
-    );
-    Ok(())
+    deliver(&rt, rt.alloc(), &mut book, &outcome, Fate::Stale);
 }
 
 // What a question found out is spared the next one, and what workers found out too. The book counts all steps.
 #[test]
-fn steps_kept(rt: HostRuntime) -> Result<(), Fail> {
+fn steps_kept(rt: HostRuntime) {
     let mut book = Book::new(rt.alloc());
     buffer_stores(&rt, &mut book);
-    let (reply, made) = ask(&rt, &mut book);
-    assert!(rt; matches!(reply, Reply::Inconsistent));
+    let made = steps_to_ask(&rt, &mut book);
     assert!(rt; 0 < made && made <= 14);
-    let (reply, steps) = ask(&rt, &mut book);
-    assert!(rt; matches!(reply, Reply::Inconsistent));
-    assert_eq!(rt; steps, 0);
-    let (reply, steps) = why(&rt, &mut book);
-    assert!(rt; matches!(reply, Reply::Because(_)));
-    assert_eq!(rt; steps, 0);
+    assert!(rt; steps_to_ask(&rt, &mut book) == 0);
+    assert!(rt; steps_to_refute(&rt, &mut book) == 0);
     assert!(rt; is_done(book.close(ANNA, name(&rt, b"t"))));
     buffer_stores(&rt, &mut book);
-    work_off(&rt, rt.alloc(), &mut book)?;
+    work_off(&rt, rt.alloc(), &mut book);
     let results = book.results();
-    assert_eq!(rt; results.accepted, 7);
-    assert_eq!(rt; results.known, 5);
-    assert_eq!(rt; results.delivered(), 12);
-    assert_eq!(rt; results.taken, 12);
-    let (reply, steps) = ask(&rt, &mut book);
-    assert!(rt; matches!(reply, Reply::Inconsistent));
-    assert_eq!(rt; steps, 0);
-    assert_eq!(rt; book.steps(), made);
-    Ok(())
+    assert!(rt; results.accepted == 7 && results.known == 5);
+    assert!(rt; results.delivered() == 12 && results.taken == 12);
+    assert!(rt; steps_to_ask(&rt, &mut book) == 0);
+    assert!(rt; book.steps() == made);
 }
 
-fn by_anna(call: Call) -> Event {
-    Event::CallBy {
-        session: ANNA,
-        call,
-    }
+/// Calls of Anna, with a taking and a delivery between them.
+fn mixed_events(rt: &impl Abort, alloc: Global, outcome: Outcome) -> Vec<Event> {
+    let name = name(rt, b"t");
+    let mut events = Vec::new(alloc);
+    add_call(rt, &mut events, ANNA, Call::ListTraces);
+    add_event(rt, &mut events, Event::Take(3));
+    add_call(rt, &mut events, ANNA, Call::Ask { name, mark: None });
+    add_event(rt, &mut events, Event::Deliver(only(rt, alloc, outcome)));
+    add_call(rt, &mut events, ANNA, Call::CloseTrace { name });
+    events
+}
+
+fn are_mixed_replies(replies: &[Reply]) -> bool {
+    matches!(
+        replies,
+        [Reply::Traces(_), Reply::Inconsistent, Reply::Done]
+    )
 }
 
 // Calls alone get a reply.
 #[test]
-fn events_mixed(rt: HostRuntime) -> Result<(), Fail> {
-    let t = name(&rt, b"t");
+fn events_mixed(rt: HostRuntime) {
     let mut book = Book::new(rt.alloc());
     buffer_stores(&rt, &mut book);
     let outcome = next_outcome(&rt, &mut book);
-    let events = vec![in rt.alloc();
-        by_anna(Call::ListTraces),
-        Event::Take(3),
-        by_anna(Call::Ask {
-            name: t,
-            mark: None
-        }),
-        Event::Deliver(vec![in rt.alloc(); outcome]?),
-        by_anna(Call::CloseTrace { name: t }),
-    ]?;
+    let events = mixed_events(&rt, rt.alloc(), outcome);
     let Ok((book, replies)) = run_events(rt.alloc(), book, events) else {
-        return Err("no memory".into());
+        panic!(&rt; "no memory");
     };
-    assert_eq!(rt; replies.len(), 3);
-    assert!(rt; matches!(replies[0], Reply::Traces(_)));
-    assert!(rt; matches!(replies[1], Reply::Inconsistent));
-    assert!(rt; matches!(replies[2], Reply::Done));
+    assert!(rt; are_mixed_replies(&replies));
     // one task was taken before the events, and one was left for the taking among them
-    assert_eq!(rt; book.results().taken, 2);
-    assert_eq!(rt; book.results().delivered(), 1);
-    assert_eq!(rt; book.results().taken, 2);
-    Ok(())
+    let results = book.results();
+    assert!(rt; results.taken == 2 && results.delivered() == 1);
 }

@@ -13,6 +13,8 @@ mod budget;
 #[cfg(test)]
 mod cells;
 #[cfg(test)]
+mod contents;
+#[cfg(test)]
 mod cutting;
 #[cfg(test)]
 mod cycles;
@@ -22,6 +24,8 @@ mod deliveries;
 mod expand;
 #[cfg(test)]
 mod frontier;
+#[cfg(test)]
+mod idle;
 #[cfg(test)]
 mod initials;
 #[cfg(test)]
@@ -49,9 +53,19 @@ mod schedules;
 #[cfg(test)]
 mod sequences;
 #[cfg(test)]
+mod shared;
+#[cfg(test)]
+mod shared_words;
+#[cfg(test)]
+mod shared_workers;
+#[cfg(test)]
+mod storm;
+#[cfg(test)]
 mod tallies;
 #[cfg(test)]
 mod tasks;
+#[cfg(test)]
+mod traces;
 #[cfg(test)]
 mod words;
 #[cfg(test)]

@@ -7,15 +7,13 @@ use std::test::Fail;
 /// Checks the value of a word in a cell of 32 bits and in one of 64, `None` where it is out of range.
 fn check_values(rt: &impl Abort, word: &str, in_word: Option<u64>, in_double: Option<u64>) {
     let value = read_value(Width::W, word.as_bytes());
-    assert_eq!(rt;
-        value,
-        in_word.ok_or(Refusal::ValueOutOfRange),
+    assert!(rt;
+        value == in_word.ok_or(Refusal::ValueOutOfRange),
         "{word} in 32 bits"
     );
     let value = read_value(Width::D, word.as_bytes());
-    assert_eq!(rt;
-        value,
-        in_double.ok_or(Refusal::ValueOutOfRange),
+    assert!(rt;
+        value == in_double.ok_or(Refusal::ValueOutOfRange),
         "{word} in 64 bits"
     );
 }
@@ -83,35 +81,32 @@ fn words_that_are_no_numbers(rt: HostRuntime) {
         "", "+1", "0X1", "0x", "-0x1", "1_000", "?", "-", "12a", "0xg", " 1",
     ];
     for word in words {
-        assert_eq!(rt; read_num(word.as_bytes()), None, "{word:?}");
+        assert!(rt; read_num(word.as_bytes()) == None, "{word:?}");
         let value = read_value(Width::D, word.as_bytes());
-        assert_eq!(rt; value, Err(Refusal::BadLine), "{word:?}");
+        assert!(rt; value == Err(Refusal::BadLine), "{word:?}");
     }
 }
 
 #[test]
 fn counts(rt: HostRuntime) {
-    assert_eq!(rt; read_count(b"0"), Some(0));
-    assert_eq!(rt; read_count(b"0064"), Some(64));
-    assert_eq!(rt; read_count(b"18446744073709551615"), Some(u64::MAX));
-    assert_eq!(rt; read_count(b"18446744073709551616"), Some(u64::MAX));
-    assert_eq!(rt;
-        read_count(b"1000000000000000000000000000000000000000"),
-        Some(u64::MAX)
-    );
+    assert!(rt; read_count(b"0") == Some(0));
+    assert!(rt; read_count(b"0064") == Some(64));
+    assert!(rt; read_count(b"18446744073709551615") == Some(u64::MAX));
+    assert!(rt; read_count(b"18446744073709551616") == Some(u64::MAX));
+    assert!(rt; read_count(b"1000000000000000000000000000000000000000") == Some(u64::MAX));
     for word in ["", "-1", "0x1", "1 "] {
-        assert_eq!(rt; read_count(word.as_bytes()), None, "{word:?}");
+        assert!(rt; read_count(word.as_bytes()) == None, "{word:?}");
     }
 }
 
 #[test]
 fn words_of_thousands_of_digits(rt: HostRuntime) -> Result<(), Fail> {
     let nines = vec![in rt.alloc(); b'9'; 5000]?;
-    assert_eq!(rt; read_num(&nines), Some(Num::Beyond));
-    assert_eq!(rt; read_count(&nines), Some(u64::MAX));
+    assert!(rt; read_num(&nines) == Some(Num::Beyond));
+    assert!(rt; read_count(&nines) == Some(u64::MAX));
     let mut zeros = vec![in rt.alloc(); b'0'; 5000]?;
     zeros.push(b'7')?;
-    assert_eq!(rt; read_num(&zeros), Some(Num::Plain(7)));
-    assert_eq!(rt; read_count(&zeros), Some(7));
+    assert!(rt; read_num(&zeros) == Some(Num::Plain(7)));
+    assert!(rt; read_count(&zeros) == Some(7));
     Ok(())
 }

@@ -1,19 +1,9 @@
+//! Lists of derived orders, judged.
+use crate::traces::{read, swap, write};
 use scm_orders::{Edge, Place, Reason, orders_refute};
 use scm_sequences::{Lengths, Op, Sequences};
 use std::alloc::Global;
 use std::test::Fail;
-
-fn read(cell: u8, value: u64) -> Op {
-    Op::R { cell, value }
-}
-
-fn write(cell: u8, value: u64) -> Op {
-    Op::W { cell, value }
-}
-
-fn swap(cell: u8, old: u64, new: u64) -> Op {
-    Op::Rw { cell, old, new }
-}
 
 // An edge from one place to another, each a process and a place there.
 fn edge(from: (u8, u32), to: (u8, u32), reason: Reason) -> Edge {

@@ -1,24 +1,19 @@
+//! That a schedule is proposed where there is one.
+use crate::traces::{read, sequences_of, write};
 use scm_proposals::propose;
-use scm_sequences::{Op, Sequences};
-use std::test::Fail;
+
+const ZEROS: [Option<u64>; 2] = [Some(0), Some(0)];
 
 #[test]
-fn message_passing(rt: HostRuntime) -> Result<(), Fail> {
-    let mut sequences = Sequences::new(rt.alloc(), 2)?;
-    sequences.push(0, Op::W { cell: 0, value: 1 })?;
-    sequences.push(0, Op::W { cell: 1, value: 1 })?;
-    sequences.push(1, Op::R { cell: 1, value: 1 })?;
-    sequences.push(1, Op::R { cell: 0, value: 1 })?;
-    let lengths = sequences.lengths();
-    let schedule = propose(
-        rt.alloc(),
-        &[Some(0), Some(0)],
-        &sequences,
-        &lengths,
-        &[],
-        1_000,
-    )
-    .ok_or("none")?;
-    assert_eq!(rt; schedule.as_slice(), [0, 0, 1, 1].as_slice());
-    Ok(())
+fn message_passing(rt: HostRuntime) {
+    let alloc = rt.alloc();
+    let operations = [
+        (0, write(0, 1)),
+        (0, write(1, 1)),
+        (1, read(1, 1)),
+        (1, read(0, 1)),
+    ];
+    let sequences = sequences_of(&rt, alloc, 2, &operations);
+    let schedule = propose(alloc, &ZEROS, &sequences, &sequences.lengths(), &[], 1_000);
+    assert!(rt; schedule.expect(&rt, "a schedule").as_slice() == [0, 0, 1, 1].as_slice());
 }

@@ -9,14 +9,14 @@ fn keeps_each_sequence_in_its_order(rt: HostRuntime) -> Result<(), Fail> {
     let mut sequences = Sequences::new(rt.alloc(), 2)?;
     sequences.push(1, write)?;
     sequences.push(1, read)?;
-    assert_eq!(rt; sequences.push(2, write), Err(Refusal::NoSuchProcess));
-    assert_eq!(rt; sequences.procs(), 2);
-    assert_eq!(rt; sequences.next(1, 0), Some(write));
-    assert_eq!(rt; sequences.next(1, 1), Some(read));
-    assert_eq!(rt; sequences.next(0, 0), None);
-    assert_eq!(rt; sequences.next(1, 2), None);
-    assert_eq!(rt; sequences.next(2, 0), None);
-    assert_eq!(rt; sequences.count(1), 2);
+    assert!(rt; sequences.push(2, write) == Err(Refusal::NoSuchProcess));
+    assert!(rt; sequences.procs() == 2);
+    assert!(rt; sequences.next(1, 0) == Some(write));
+    assert!(rt; sequences.next(1, 1) == Some(read));
+    assert!(rt; sequences.next(0, 0) == None);
+    assert!(rt; sequences.next(1, 2) == None);
+    assert!(rt; sequences.next(2, 0) == None);
+    assert!(rt; sequences.count(1) == 2);
     assert!(rt; sequences.names_cells_below(2));
     assert!(rt; !sequences.names_cells_below(1));
     Ok(())
@@ -33,8 +33,8 @@ fn a_sequence_is_full_at_the_limit(rt: HostRuntime) -> Result<(), Fail> {
     for _ in 0..MOST_OPERATIONS {
         sequences.push(0, swap)?;
     }
-    assert_eq!(rt; sequences.push(0, swap), Err(Refusal::SequenceFull));
-    assert_eq!(rt; sequences.count(0), 1_000_000);
+    assert!(rt; sequences.push(0, swap) == Err(Refusal::SequenceFull));
+    assert!(rt; sequences.count(0) == 1_000_000);
     Ok(())
 }
 
@@ -43,12 +43,12 @@ fn compares_lengths(rt: HostRuntime) -> Result<(), Fail> {
     let mut sequences = Sequences::new(rt.alloc(), 3)?;
     sequences.push(2, Op::W { cell: 0, value: 1 })?;
     let lengths = sequences.lengths();
-    assert_eq!(rt; lengths.procs(), 3);
-    assert_eq!(rt; lengths.get(0), 0);
-    assert_eq!(rt; lengths.get(2), 1);
+    assert!(rt; lengths.procs() == 3);
+    assert!(rt; lengths.get(0) == 0);
+    assert!(rt; lengths.get(2) == 1);
     for (counts, within) in [([0, 0, 0], true), ([0, 0, 1], true), ([1, 0, 0], false)] {
         let counts = Lengths::new(rt.alloc(), &counts);
-        assert_eq!(rt; counts.within(&lengths), within);
+        assert!(rt; counts.within(&lengths) == within);
     }
     assert!(rt; !Lengths::new(rt.alloc(), &[0, 0]).within(&lengths));
     Ok(())
@@ -64,14 +64,14 @@ fn a_read_finds_its_value_or_an_open_cell(rt: HostRuntime) {
     };
     let write = Op::W { cell: 0, value: 6 };
     for (held, found) in [(Some(5), true), (Some(6), false), (None, true)] {
-        assert_eq!(rt; read.finds(held), found);
-        assert_eq!(rt; swap.finds(held), found);
+        assert!(rt; read.finds(held) == found);
+        assert!(rt; swap.finds(held) == found);
         assert!(rt; write.finds(held));
     }
-    assert_eq!(rt; read.value_after(), 5);
-    assert_eq!(rt; swap.value_after(), 6);
-    assert_eq!(rt; write.value_after(), 6);
-    assert_eq!(rt; swap.cell(), 0);
+    assert!(rt; read.value_after() == 5);
+    assert!(rt; swap.value_after() == 6);
+    assert!(rt; write.value_after() == 6);
+    assert!(rt; swap.cell() == 0);
 }
 
 #[test]
@@ -81,7 +81,7 @@ fn numbers_and_spells_the_refusals(rt: HostRuntime) {
         (Refusal::ValueOutOfRange, 12, "value-out-of-range"),
         (Refusal::TooManySessions, 19, "too-many-sessions"),
     ] {
-        assert_eq!(rt; refusal.number(), number);
-        assert_eq!(rt; refusal.text(), text);
+        assert!(rt; refusal.number() == number);
+        assert!(rt; refusal.text() == text);
     }
 }

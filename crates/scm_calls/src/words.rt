@@ -1,6 +1,6 @@
 //! The words of the tests: sessions, names, cells and accesses.
 
-use scm_book::{Decl, Reply};
+use scm_book::{Call, Decl, Event, Reply};
 use scm_cells::{Initial, Name, Num, Width};
 use scm_lowering::Access;
 use std::process::Abort;
@@ -41,4 +41,12 @@ pub(crate) fn store(rt: &impl Abort, word: &[u8], value: u64) -> Access {
 
 pub(crate) fn is_done(reply: Reply) -> bool {
     matches!(reply, Reply::Done)
+}
+
+pub(crate) fn add_event(rt: &impl Abort, events: &mut Vec<Event>, event: Event) {
+    events.push(event).expect(rt, "memory");
+}
+
+pub(crate) fn add_call(rt: &impl Abort, events: &mut Vec<Event>, session: u16, call: Call) {
+    add_event(rt, events, Event::CallBy { session, call });
 }

@@ -1,6 +1,6 @@
 //! What each read may see.
-use crate::numbering::Numbering;
-use crate::values::{Values, reading};
+use crate::writers::Writers;
+use scm_clocks::{Numbering, Values};
 use std::alloc::Global;
 
 /// The most candidates of a trace: one that has more gets no list.
@@ -49,12 +49,8 @@ pub(crate) struct Candidates {
 }
 
 impl Candidates {
-    pub(crate) fn new(
-        alloc: Global,
-        initials: &[Option<u64>],
-        numbering: &Numbering,
-        values: &Values,
-    ) -> Option<Candidates> {
+    pub(crate) fn new(alloc: Global, numbering: &Numbering, values: &Values) -> Option<Candidates> {
+        let writers = Writers::new(alloc, numbering, values)?;
         let mut candidates = Candidates {
             starts: Vec::new(alloc),
             list: Vec::new(alloc),
@@ -62,7 +58,7 @@ impl Candidates {
             seen: Vec::new(alloc),
         };
         for x in 0..numbering.len()? {
-            candidates.add(initials, numbering, values, x)?;
+            candidates.add(numbering, values, &writers, x)?;
         }
         let end = u32::try_from(candidates.list.len()).ok()?;
         candidates.starts.push(end).ok()?;
@@ -71,22 +67,22 @@ impl Candidates {
 
     fn add(
         &mut self,
-        initials: &[Option<u64>],
         numbering: &Numbering,
         values: &Values,
+        writers: &Writers,
         x: u32,
     ) -> Option<()> {
         let start = u32::try_from(self.list.len()).ok()?;
         self.starts.push(start).ok()?;
         self.seen.push(Seen::Unknown).ok()?;
-        let Some((cell, value)) = reading(numbering.op(x)?) else {
+        let Some(value) = values.found(x) else {
             return self.firsts.push(NotFirst::Given).ok();
         };
-        for write in values.writers((cell, value)) {
+        for write in writers.of(value)? {
             self.add_write(x, *write)?;
         }
-        let first = match initials.get(usize::from(cell)) {
-            Some(Some(first)) if *first != value => NotFirst::Given,
+        let first = match values.first(numbering.cell(x)?).flatten() {
+            Some(first) if first != value => NotFirst::Given,
             _ => NotFirst::No,
         };
         self.firsts.push(first).ok()

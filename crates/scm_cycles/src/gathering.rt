@@ -177,10 +177,7 @@ impl Gathering {
         for need in &self.needs(search, id)? {
             premise = self.write_need(search, *need, id)?;
         }
-        let (from, to) = (
-            search.numbering.place(drawn.from)?,
-            search.numbering.place(drawn.to)?,
-        );
+        let (from, to) = (search.place(drawn.from)?, search.place(drawn.to)?);
         let before = premise;
         let reason = match drawn.why {
             Why::Source => Reason::Source,
@@ -205,10 +202,7 @@ impl Gathering {
         };
         let first = self.write_path(search, need.from, middle, limit)?;
         let second = self.write_path(search, middle, need.to, limit)?;
-        let (from, to) = (
-            search.numbering.place(need.from)?,
-            search.numbering.place(need.to)?,
-        );
+        let (from, to) = (search.place(need.from)?, search.place(need.to)?);
         self.lines.add(from, to, Reason::Hidden { first, second })
     }
 
@@ -218,7 +212,7 @@ impl Gathering {
 
     // Writes the lines that lead from one operation to another. The last of them.
     fn write_path(&mut self, search: &Search, from: u32, to: u32, limit: u32) -> Option<u32> {
-        let (start, end) = (search.numbering.place(from)?, search.numbering.place(to)?);
+        let (start, end) = (search.place(from)?, search.place(to)?);
         if let Some(line) = self.lines.find(start, end) {
             return Some(line);
         }
@@ -245,7 +239,7 @@ impl Gathering {
         if from == to {
             return Some(line);
         }
-        let program = self.lines.program(&search.numbering, from, to)?;
+        let program = self.lines.program(search.place(from)?, search.place(to)?)?;
         Some(Some(self.lines.join(line, program)?))
     }
 
@@ -254,7 +248,7 @@ impl Gathering {
         let last = search.drawn.get(closing)?;
         let first = self.write_path(search, last.to, last.from, closing)?;
         let second = self.line(closing)?;
-        let place = search.numbering.place(last.to)?;
+        let place = search.place(last.to)?;
         self.lines
             .add(place, place, Reason::Joined { first, second })?;
         Some(())

@@ -8,11 +8,9 @@ mod drawn;
 mod finding;
 mod gathering;
 mod lines;
-mod numbering;
 mod paths;
 mod rules;
 mod search;
-mod values;
-mod writes;
+mod writers;
 
 pub use finding::find_cycle;

@@ -1,5 +1,4 @@
 //! The list as it is written, line by line.
-use crate::numbering::Numbering;
 use scm_orders::{Edge, Place, Reason};
 use std::alloc::Global;
 
@@ -43,8 +42,7 @@ impl Lines {
     }
 
     /// The line for two operations of one process.
-    pub(crate) fn program(&mut self, numbering: &Numbering, from: u32, to: u32) -> Option<u32> {
-        let (from, to) = (numbering.place(from)?, numbering.place(to)?);
+    pub(crate) fn program(&mut self, from: Place, to: Place) -> Option<u32> {
         match self.find(from, to) {
             Some(line) => Some(line),
             None => self.add(from, to, Reason::Program),

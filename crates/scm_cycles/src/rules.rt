@@ -2,7 +2,6 @@
 use crate::candidates::{NotFirst, Out, Seen};
 use crate::drawn::Why;
 use crate::search::Search;
-use crate::values::reading;
 
 impl Search {
     /// Draws all that follows, round by round, until a cycle is closed or nothing is new. The order that closed it.
@@ -22,8 +21,9 @@ impl Search {
 
     fn visit_all(&mut self) -> Option<()> {
         for x in 0..self.ops {
-            if let Some((cell, _)) = reading(self.numbering.op(x)?) {
+            if self.values.found(x).is_some() {
                 self.burn(self.procs)?;
+                let cell = self.numbering.cell(x)?;
                 self.visit(x, cell)?;
             }
             if self.closing.is_some() {
@@ -34,7 +34,7 @@ impl Search {
     }
 
     // Draws what follows from what this read sees.
-    fn visit(&mut self, read: u32, cell: u8) -> Option<()> {
+    fn visit(&mut self, read: u32, cell: u32) -> Option<()> {
         if let Seen::Unknown = self.candidates.seen(read)? {
             self.look_for_source(read, cell)?;
         }
@@ -46,7 +46,7 @@ impl Search {
     }
 
     // Settles what the read sees, where one candidate is left, and closes a cycle where none is.
-    fn look_for_source(&mut self, read: u32, cell: u8) -> Option<()> {
+    fn look_for_source(&mut self, read: u32, cell: u32) -> Option<()> {
         let (start, end) = self.candidates.range(read)?;
         self.burn(end.checked_sub(start)?)?;
         let (mut left, mut source) = (0u32, read);
@@ -68,7 +68,7 @@ impl Search {
     }
 
     // Whether the read may see the candidate at this place.
-    fn is_left(&mut self, read: u32, cell: u8, place: u32) -> Option<bool> {
+    fn is_left(&mut self, read: u32, cell: u32, place: u32) -> Option<bool> {
         let candidate = self.candidates.get(place)?;
         if !matches!(candidate.out, Out::No) {
             return Some(false);
@@ -83,7 +83,7 @@ impl Search {
     }
 
     // How another write between them hides this write from the read, if one is known.
-    fn hiding(&self, write: u32, read: u32, cell: u8) -> Option<Out> {
+    fn hiding(&self, write: u32, read: u32, cell: u32) -> Option<Out> {
         for process in 0..self.procs {
             let Some(last) = self.last_write(process, cell, read) else {
                 continue;
@@ -96,7 +96,7 @@ impl Search {
     }
 
     // The last write of a process to the cell that is known to come before the read.
-    fn last_write(&self, process: u32, cell: u8, read: u32) -> Option<u32> {
+    fn last_write(&self, process: u32, cell: u32, read: u32) -> Option<u32> {
         let at = self
             .writes
             .before(process, cell, self.clock(read, process)?)?;
@@ -108,7 +108,7 @@ impl Search {
     }
 
     // Whether the read may see first contents.
-    fn is_first_left(&mut self, read: u32, cell: u8) -> Option<bool> {
+    fn is_first_left(&mut self, read: u32, cell: u32) -> Option<bool> {
         if !self.may_be_first(read)? {
             return Some(false);
         }
@@ -123,7 +123,7 @@ impl Search {
     }
 
     // What sees first contents comes before all writes of the cell, and before what read another value of it.
-    fn draw_initial(&mut self, read: u32, cell: u8) -> Option<()> {
+    fn draw_initial(&mut self, read: u32, cell: u32) -> Option<()> {
         for process in 0..self.procs {
             let Some(at) = self.writes.of(process, cell)?.first().copied() else {
                 continue;
@@ -140,12 +140,13 @@ impl Search {
     }
 
     fn draw_initial_others(&mut self, read: u32) -> Option<()> {
-        let (cell, value) = reading(self.numbering.op(read)?)?;
+        let (cell, value) = (self.numbering.cell(read)?, self.values.found(read)?);
         for other in 0..self.ops {
-            let Some((of, found)) = reading(self.numbering.op(other)?) else {
+            let Some(found) = self.values.found(other) else {
                 continue;
             };
-            if of != cell || found == value || !self.may_be_first(other)? {
+            let is_of_cell = self.numbering.cell(other)? == cell;
+            if !is_of_cell || found == value || !self.may_be_first(other)? {
                 continue;
             }
             let id = self.draw(read, other, Why::Initial)?;
@@ -158,7 +159,7 @@ impl Search {
     }
 
     // Other writes of the cell that come before the read come before its source.
-    fn draw_after_source(&mut self, read: u32, cell: u8, source: u32) -> Option<()> {
+    fn draw_after_source(&mut self, read: u32, cell: u32, source: u32) -> Option<()> {
         let write = self.drawn.get(source)?.from;
         for process in 0..self.procs {
             if self.closing.is_some() {
@@ -175,7 +176,7 @@ impl Search {
     }
 
     // The read comes before other writes of the cell that come after its source.
-    fn draw_before_next(&mut self, read: u32, cell: u8, source: u32) -> Option<()> {
+    fn draw_before_next(&mut self, read: u32, cell: u32, source: u32) -> Option<()> {
         let write = self.drawn.get(source)?.from;
         for process in 0..self.procs {
             if self.closing.is_some() {
@@ -194,7 +195,7 @@ impl Search {
     fn first_write_after(
         &self,
         process: u32,
-        cell: u8,
+        cell: u32,
         write: u32,
         read: u32,
     ) -> Option<Option<u32>> {

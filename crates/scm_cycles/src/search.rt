@@ -1,28 +1,28 @@
 //! What comes before what in every legal schedule, as far as it was drawn.
 use crate::candidates::Candidates;
 use crate::drawn::{AllDrawn, Drawn, Why};
-use crate::numbering::Numbering;
-use crate::values::Values;
-use crate::writes::Writes;
+use scm_clocks::{Clocks, Flags, Numbering, Values, Writes};
+use scm_orders::Place;
 use scm_sequences::{Lengths, Sequences};
 use std::alloc::Global;
-use std::collections::VecDeque;
 
-/// The most numbers of all clocks: a trace that needs more gets no list.
-const MOST_NUMBERS: usize = 1 << 26;
+/// How many cells a number of 8 bits can name.
+const CELLS: u32 = 256;
 
 /// Clocks (for each operation, how many of each process come before it), the orders that were drawn, and what each read
 /// may see. A method that draws orders gives `None` where the fuel is spent.
 #[derive(Drop)]
 pub(crate) struct Search {
     pub(crate) numbering: Numbering,
+    pub(crate) values: Values,
     pub(crate) writes: Writes,
     pub(crate) candidates: Candidates,
     pub(crate) drawn: AllDrawn,
     pub(crate) procs: u32,
     pub(crate) ops: u32,
-    clocks: Vec<u32>,
-    queue: VecDeque<u32>,
+    clocks: Clocks,
+    /// What has new clocks to bring to those after it.
+    flags: Flags,
     /// The drawn order that closed a cycle, if one did.
     pub(crate) closing: Option<u32>,
     pub(crate) fuel: u64,
@@ -36,43 +36,46 @@ impl Search {
         lengths: &Lengths,
         fuel: u64,
     ) -> Option<Search> {
-        let numbering = Numbering::new(alloc, sequences, lengths)?;
-        let values = Values::new(alloc, &numbering)?;
-        let procs = numbering.procs()?;
-        let ops = numbering.len()?;
-        let size = (ops as usize).checked_mul(procs as usize)?;
-        if size > MOST_NUMBERS {
-            return None;
-        }
-        let mut search = Search {
-            writes: Writes::new(alloc, &numbering)?,
-            candidates: Candidates::new(alloc, initials, &numbering, &values)?,
-            drawn: AllDrawn::new(alloc, ops)?,
-            procs,
-            ops,
-            clocks: vec![in alloc; 0; size].ok()?,
-            queue: VecDeque::new(alloc),
-            closing: None,
-            fuel,
-            numbering,
-        };
-        for x in 0..ops {
-            let (process, at) = search.numbering.spot(x)?;
-            let place = search.clock_place(x, process);
-            *search.clocks.get_mut(place)? = at;
-        }
-        Some(search)
+        let none_made = vec![in alloc; 0; lengths.procs()].ok()?;
+        let numbering = Numbering::new(alloc, none_made.as_slice(), sequences, lengths)?;
+        let values = Values::new(alloc, initials, &numbering)?;
+        Search::over(alloc, numbering, values, fuel)
     }
 
-    fn clock_place(&self, x: u32, process: u32) -> usize {
-        (x as usize)
-            .wrapping_mul(self.procs as usize)
-            .wrapping_add(process as usize)
+    // Over these operations and their values.
+    fn over(alloc: Global, numbering: Numbering, values: Values, fuel: u64) -> Option<Search> {
+        let procs = numbering.procs()?;
+        let ops = numbering.len()?;
+        let candidates = Candidates::new(alloc, &numbering, &values)?;
+        let writes = Writes::new(alloc, CELLS, &numbering, &values)?;
+        let clocks = Clocks::new(alloc, &numbering)?;
+        let flags = Flags::new(alloc, ops)?;
+        let drawn = AllDrawn::new(alloc, ops)?;
+        Some(Search {
+            numbering,
+            values,
+            writes,
+            candidates,
+            drawn,
+            procs,
+            ops,
+            clocks,
+            flags,
+            closing: None,
+            fuel,
+        })
+    }
+
+    /// Where an operation stands.
+    pub(crate) fn place(&self, x: u32) -> Option<Place> {
+        let (process, at) = self.numbering.spot(x)?;
+        let process = u8::try_from(process).ok()?;
+        Some(Place { process, at })
     }
 
     /// How many operations of a process come before `x`.
     pub(crate) fn clock(&self, x: u32, process: u32) -> Option<u32> {
-        self.clocks.get(self.clock_place(x, process)).copied()
+        self.clocks.get(x, process)
     }
 
     /// Whether `x` is known to come before `y`.
@@ -94,16 +97,16 @@ impl Search {
             return Some(id);
         }
         if self.absorb(to, from)? {
-            self.queue.push_back(to).ok()?;
+            self.flags.add(to)?;
             self.spread()?;
         }
         Some(id)
     }
 
-    // Brings what is new of the clocks that are queued to those after them.
+    // Brings what is new of the clocks that are flagged to those after them.
     fn spread(&mut self) -> Option<()> {
         for _ in 0..self.fuel {
-            let Some(x) = self.queue.pop_front() else {
+            let Some(x) = self.flags.next() else {
                 return Some(());
             };
             self.burn(self.procs)?;
@@ -131,7 +134,7 @@ impl Search {
 
     fn follow(&mut self, y: u32, x: u32) -> Option<()> {
         if self.absorb(y, x)? {
-            self.queue.push_back(y).ok()?;
+            self.flags.add(y)?;
         }
         Some(())
     }
@@ -148,12 +151,10 @@ impl Search {
     }
 
     fn raise(&mut self, y: u32, process: u32, count: u32) -> Option<bool> {
-        let place = self.clock_place(y, process);
-        let clock = self.clocks.get_mut(place)?;
-        if *clock >= count {
+        if self.clock(y, process)? >= count {
             return Some(false);
         }
-        *clock = count;
+        self.clocks.set(y, process, count)?;
         Some(true)
     }
 }

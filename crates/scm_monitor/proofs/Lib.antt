@@ -1,2 +1,2 @@
-mod Turns
 mod Parsing
+pub mod Reading

@@ -1,79 +1,15 @@
--- What the words of the command line come to.
-use Rattle.std.proofs.Common.{◌≡◌, ◌∙◌, Bool, true, false, ◌||◌, List, [], ◌∷◌, Some, codes, inl, inr, refl, sym, ap, ap₂, subst}
-use Rattle.std.specs.Prelude.{fold, if◌then◌else◌}
-use Rattle.std.specs.List.{All}
-use Rattle.std.proofs.lemmas.List.Elements.{All-cons, All-nil}
-use Rattle.std.specs.Str.{bytes_eq}
-use Rattle.clap.specs.Walk.{Held, Text, Walk, finished, one_of, walked}
-use Rattle.clap.specs.Simple.{matches_of}
+-- What clap makes of words that ask for the help or the version.
+use Rattle.std.proofs.Common.{◌≡◌, ◌∙◌, ◌⊎◌, None, true≢false, List, [], ◌∷◌, is_some, codes, inl, inr, refl, sym, ap}
+use Rattle.std.specs.Prelude.{slice_get}
+use Rattle.clap.specs.Walk.{Text}
 use Rattle.clap.specs.Faults.{fault_of, walk_fault}
 use Rattle.clap.specs.Kinds.{Kinds}
-use Rattle.clap.specs.Takes.{takes}
 use Rattle.clap.specs.declared.error.kind.ErrorKind.TheVariants as kind
 use Rattle.clap.proofs.OnLiterals.{clap_on_literals}
-use Rattle.scm_monitor.specs.CommandLine.{ComesFirst, IsHelp, IsOption, IsVersion, asks_for_journal, command_line}
-use Rattle.scm_monitor.proofs.Turns.{Turns, at, cons≢nil, held, left, right, rules, shape, turn}
+use Rattle.scm_monitor.specs.CommandLine.{ComesFirst, IsHelp, IsVersion, command_line, options_of}
 
--- the words are options, and the walk over them ends where `--journal` was used if it was among them
-abbrev Ends : Bool → Bool → List Text → Type 0
-Ends used dashes words = All IsOption words × ((fold (walked rules []) (at used dashes) words).held ≡ held (used || asks_for_journal words))
-
-abbrev Passes : Bool → Bool → List Text → Type 0
-Passes used dashes words = walk_fault shape [] (at used dashes) words ≡ []
-
-more : (used dashes : Bool) (word : Text) (rest : List Text) (used_then dashes_then : Bool) → IsOption word
-    → walked rules [] (at used dashes) word ≡ at used_then dashes_then → (used || (bytes_eq word (codes "--journal") || asks_for_journal rest)) ≡ (used_then || asks_for_journal rest)
-    → Ends used_then dashes_then rest → Ends used dashes (word ∷ rest)
-more used dashes word rest used_then dashes_then is next asks h =
-    (All-cons IsOption word rest is h.0, ap (λ (w : Walk). (fold (walked rules []) w rest).held) next ∙ h.1 ∙ sym (ap held asks))
-
-turned : (used dashes : Bool) (word : Text) (rest : List Text) → ((u d : Bool) → Passes u d rest → Ends u d rest)
-    → Turns used dashes word → walk_fault shape [] (walked rules [] (at used dashes) word) rest ≡ [] → Ends used dashes (word ∷ rest)
-unfolding clap_on_literals
-turned used dashes word rest ih here later = elim here.1 [
-  | inl is ↦
-      let next : walked rules [] (at used dashes) word ≡ at used true = ap₂ (λ (d : Bool) (t : Text). walked rules [] (at used d) t) here.0 is in
-      more used dashes word rest used true (inr is) next (ap (λ (t : Text). used || (bytes_eq t (codes "--journal") || asks_for_journal rest)) is)
-      (ih used true (subst (λ (w : Walk). walk_fault shape [] w rest ≡ []) next later))
-  | inr is ↦
-      let next : walked rules [] (at used dashes) word ≡ at true false =
-      ap₂ (λ (u : Bool) (t : Text). walked rules [] (at u dashes) t) is.1 is.0 ∙ ap (λ (d : Bool). walked rules [] (at false d) (codes "--journal")) here.0 in
-      more used dashes word rest true false (inl is.0) next
-      (ap₂ (λ (u : Bool) (t : Text). u || (bytes_eq t (codes "--journal") || asks_for_journal rest)) is.1 is.0)
-      (ih true false (subst (λ (w : Walk). walk_fault shape [] w rest ≡ []) next later))
-]
-
-none_left : (used : Bool) → held used ≡ held (used || false)
-none_left true = refl
-none_left false = refl
-
-ends : (words : List Text) (used dashes : Bool) → Passes used dashes words → Ends used dashes words
-unfolding walk_fault
-ends [] used dashes e = (All-nil IsOption, none_left used)
-ends (word ∷ rest) used dashes e = turned used dashes word rest (ends rest) (turn used dashes word (left _ _ e)) (right _ _ e)
-
-abbrev pub flag_text : Bool → Text
-flag_text b = if b then codes "true" else codes "false"
-
-flag_of : (b : Bool) → one_of (codes "journal") (finished rules (held b)) ≡ Some (flag_text b)
-flag_of true = refl
-flag_of false = refl
-
-pub reads_flag : (words : List Text) → fault_of command_line words ≡ []
-    → one_of (codes "journal") (matches_of command_line words) ≡ Some (flag_text (asks_for_journal words))
-reads_flag words e =
-    ap (λ (h : Held). one_of (codes "journal") (finished rules h)) (ends words false false (left _ _ e)).1 ∙ flag_of (asks_for_journal words)
-
-pub are_options : (words : List Text) → fault_of command_line words ≡ [] → All IsOption words
-are_options words e = (ends words false false (left _ _ e)).0
-
-pub takes_no_words : takes command_line [] ≡ true
-unfolding clap_on_literals
-takes_no_words = refl
-
-pub takes_journal : takes command_line (codes "--journal" ∷ []) ≡ true
-unfolding clap_on_literals
-takes_journal = refl
+cons≢nil : {X : Type 0} (x : X) (xs : List X) → x ∷ xs ≡ [] → ⊥
+cons≢nil {X = X} x xs e = true≢false (ap (λ (ys : List X). is_some (slice_get ys 0)) e)
 
 abbrev journal_then : Text → List Text → List Text
 journal_then word rest = codes "--journal" ∷ word ∷ rest
@@ -138,3 +74,33 @@ help_fails words first none = cons≢nil kind.DisplayHelp [] (sym (help_shown wo
 
 pub version_fails : (words : List Text) → ComesFirst IsVersion words → fault_of command_line words ≡ [] → ⊥
 version_fails words first none = cons≢nil kind.DisplayVersion [] (sym (version_shown words first) ∙ none)
+
+-- ---- such words ask for no run
+
+none_first : (word : Text) (rest : List Text) → IsHelp word ⊎ IsVersion word → options_of (word ∷ rest) ≡ None
+none_first word [] (inl (inl is)) = rw is refl
+none_first word (next ∷ rest) (inl (inl is)) = rw is refl
+none_first word [] (inl (inr is)) = rw is refl
+none_first word (next ∷ rest) (inl (inr is)) = rw is refl
+none_first word [] (inr (inl is)) = rw is refl
+none_first word (next ∷ rest) (inr (inl is)) = rw is refl
+none_first word [] (inr (inr is)) = rw is refl
+none_first word (next ∷ rest) (inr (inr is)) = rw is refl
+
+none_second : (word : Text) (rest : List Text) → IsHelp word ⊎ IsVersion word → options_of (journal_then word rest) ≡ None
+none_second word [] (inl (inl is)) = rw is refl
+none_second word (next ∷ rest) (inl (inl is)) = rw is refl
+none_second word [] (inl (inr is)) = rw is refl
+none_second word (next ∷ rest) (inl (inr is)) = rw is refl
+none_second word [] (inr (inl is)) = rw is refl
+none_second word (next ∷ rest) (inr (inl is)) = rw is refl
+none_second word [] (inr (inr is)) = rw is refl
+none_second word (next ∷ rest) (inr (inr is)) = rw is refl
+
+pub help_asks_no_run : (words : List Text) → ComesFirst IsHelp words → options_of words ≡ None
+help_asks_no_run words (word, rest, is, inl e) = rw e (none_first word rest (inl is))
+help_asks_no_run words (word, rest, is, inr e) = rw e (none_second word rest (inl is))
+
+pub version_asks_no_run : (words : List Text) → ComesFirst IsVersion words → options_of words ≡ None
+version_asks_no_run words (word, rest, is, inl e) = rw e (none_first word rest (inr is))
+version_asks_no_run words (word, rest, is, inr e) = rw e (none_second word rest (inr is))

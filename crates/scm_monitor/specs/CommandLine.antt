@@ -1,18 +1,57 @@
 -- The words of the command line. This project's profile.
-use Rattle.std.specs.Prelude.{◌≡◌, ◌⊎◌, ℕ, List, [], ◌∷◌, Bool, true, Some, codes}
-use Rattle.std.specs.List.{list_any}
+use Rattle.std.specs.Prelude.{◌≡◌, ◌⊎◌, ℕ, List, [], ◌∷◌, true, false, not, ◌&&◌, nat_le, if◌then◌else◌, Option, None, Some, is_some, unwrap_or, codes}
+use Rattle.std.specs.Option.{option_and_then, option_map}
 use Rattle.std.specs.Str.{bytes_eq}
 use Rattle.clap.specs.Walk.{Rule}
 use Rattle.clap.specs.Simple.{App, new_app, new_rule, on_top, with_rule}
-use Rattle.clap.specs.declared.builder.action.ArgAction.TheVariants.{Help, SetTrue}
+use Rattle.clap.specs.declared.builder.action.ArgAction.TheVariants.{Help, Set, SetTrue}
+use Rattle.clap.specs.declared.builder.value_parser.ValueParser.TheVariants.{Unsigned}
+use Rattle.scm_cells.specs.Numbers.{count_of_word}
+use Rattle.scm_monitor.specs.declared.settings.Options.{Options}
+use Rattle.scm_monitor.specs.declared.settings.TheConstants.{DEFAULT_WORKERS, MOST_WORKERS}
+use Rattle.scm_monitor.specs.declared.switches.Asked.{Asked}
 
--- one of the words is `--journal`
-abbrev pub asks_for_journal : List (List ℕ) → Bool
-asks_for_journal = list_any (λ word. bytes_eq word (codes "--journal"))
+-- ---- which words are taken, and what they ask for
 
--- a word that doesn't keep the program from running a script; `--` ends the options
-abbrev pub IsOption : List ℕ → Type 0
-IsOption word = (word ≡ codes "--journal") ⊎ (word ≡ codes "--")
+abbrev pub nothing_asked : Asked
+nothing_asked = record { workers = None; check = false; journal = false }
+
+-- the number of workers that a word says
+abbrev pub workers_of_word : List ℕ → Option ℕ
+workers_of_word word = option_and_then (λ n. if nat_le n MOST_WORKERS then Some n else None) (count_of_word word)
+
+-- so many workers too, where their number wasn't asked for before
+abbrev pub with_workers : Asked → ℕ → Option Asked
+with_workers asked n = if is_some asked.workers then None else Some (record asked { workers = Some n })
+
+-- what a word alone asks for too, where it wasn't there before
+abbrev pub with_flag : Asked → List ℕ → Option Asked
+with_flag asked word =
+    if bytes_eq word (codes "--check") && not asked.check then Some (record asked { check = true })
+    else (if bytes_eq word (codes "--journal") && not asked.journal then Some (record asked { journal = true })
+    else None)
+
+-- what the words ask for after others; `--` may stand last
+abbrev pub asked_by_words : Asked → List (List ℕ) → Option Asked
+asked_by_words asked [] = Some asked
+asked_by_words asked (word ∷ []) = if bytes_eq word (codes "--") then Some asked else with_flag asked word
+asked_by_words asked (word ∷ next ∷ words) =
+    if bytes_eq word (codes "--workers") then
+    option_and_then (λ n. option_and_then (λ more. asked_by_words more words) (with_workers asked n)) (workers_of_word next)
+    else option_and_then (λ more. asked_by_words more (next ∷ words)) (with_flag asked word)
+
+abbrev pub asked_for : Asked → Options
+asked_for asked = record {
+  workers = unwrap_or asked.workers DEFAULT_WORKERS;
+  check = asked.check;
+  journal = asked.journal;
+}
+
+-- the options that the words after the program's name ask for, None where a word isn't taken
+abbrev pub options_of : List (List ℕ) → Option Options
+options_of words = option_map asked_for (asked_by_words nothing_asked words)
+
+-- ---- help and version
 
 abbrev pub IsHelp : List ℕ → Type 0
 IsHelp word = (word ≡ codes "--help") ⊎ (word ≡ codes "-h")
@@ -27,22 +66,36 @@ ComesFirst Is words = (word : List ℕ) × (rest : List (List ℕ)) × Is word
 
 -- what clap is told of the command line
 
-abbrev pub journal_option : Rule
-journal_option = record (new_rule (codes "journal")) {
+abbrev pub workers_rule : Rule
+workers_rule = record (new_rule (codes "workers")) {
+  long = Some (codes "workers");
+  action = Some Set;
+  parser = Some (Unsigned 0 16);
+  value_names = 1;
+}
+
+abbrev pub check_rule : Rule
+check_rule = record (new_rule (codes "check")) {
+  long = Some (codes "check");
+  action = Some SetTrue;
+}
+
+abbrev pub journal_rule : Rule
+journal_rule = record (new_rule (codes "journal")) {
   long = Some (codes "journal");
   action = Some SetTrue;
 }
 
-abbrev pub help_option : Rule
-help_option = record (new_rule (codes "help")) {
+abbrev pub help_rule : Rule
+help_rule = record (new_rule (codes "help")) {
   short = Some 104;
   long = Some (codes "help");
   action = Some Help;
 }
 
 abbrev pub command_line : App
-command_line = with_rule (with_rule (on_top (λ top. record top {
+command_line = with_rule (with_rule (with_rule (with_rule (on_top (λ top. record top {
   no_binary_name = true;
   disable_help_flag = true;
   has_version = true;
-}) (new_app (codes "scm_monitor"))) journal_option) help_option
+}) (new_app (codes "scm_monitor"))) workers_rule) check_rule) journal_rule) help_rule

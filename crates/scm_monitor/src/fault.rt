@@ -24,21 +24,3 @@ pub fn fault_text(fault: &RunFault) -> &'static str
         RunFault::NoMemory => "scm_monitor: no memory",
     }
 }
-
-#[cfg(test)]
-mod tests {
-    use super::*;
-
-    #[test]
-    fn faults_have_their_statuses_and_texts(rt: HostRuntime) {
-        let faults = [
-            (RunFault::ReadFailed, 1, "scm_monitor: read failed"),
-            (RunFault::WriteFailed, 1, "scm_monitor: write failed"),
-            (RunFault::NoMemory, 3, "scm_monitor: no memory"),
-        ];
-        for (fault, status, text) in faults {
-            assert_eq!(rt; fault_status(&fault), status);
-            assert_eq!(rt; fault_text(&fault), text);
-        }
-    }
-}

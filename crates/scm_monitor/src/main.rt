@@ -1,9 +1,13 @@
 //! The program: it reads a script from standard input and writes the replies to standard output.
 #![tactic(auto)]
 
+ghost use Rattle.std.specs.Prelude.{◌≡◌, false};
+ghost use Rattle.scm_sessions.specs.Ports.{has_failed};
+
 mod command_line;
 mod fault;
 mod settings;
+mod switches;
 mod words;
 
 use clap::Error;
@@ -11,14 +15,24 @@ use clap::error::ErrorKind;
 use command_line::options;
 use fault::{fault_status, fault_text};
 use scm_book::Book;
-use scm_sessions::{Port, RunFault, run_script, write_journal};
+use scm_expand::FreeGate;
+use scm_sessions::{Ended, Findings, Port, RunFault, run_script, run_with_workers, write_journal};
+use scm_shared::BookToken;
 use settings::Options;
-use std::io::{self, BufWriter};
+use std::alloc::Global;
+use std::io::{self, BufWriter, Eprint, Print, Read, Write};
+use std::marker::Brand;
 use std::process::ExitCode;
+use std::rt::Runtime;
+use std::sync::Wait;
+use std::thread::Threads;
 use words::read_words;
 
 /// The exit status of a command line that is refused.
 const USAGE_STATUS: u8 = 2;
+
+/// The exit status where the audit of a run beside workers says that the journal isn't what the sessions were answered.
+const AUDIT_STATUS: u8 = 7;
 
 /// How many bytes of replies are gathered for one write.
 const WRITTEN_AT_ONCE: usize = 65_536;
@@ -37,14 +51,14 @@ fn main(rt: HostRuntime) -> ExitCode {
 }
 
 // Does what the words after the program's name ask for.
-fn follow(rt: &HostRuntime, words: &[String]) -> ExitCode {
+fn follow<H: Runtime + AllocGlobal + Threads + Wait + Sync>(rt: &H, words: &[String]) -> ExitCode {
     let alloc = rt.alloc();
     let Ok(texts) = words.iter().map(String::as_str).collect::<Vec<&str>>(alloc) else {
         return fail(rt, &RunFault::NoMemory);
     };
     match options(alloc, texts.as_slice()) {
         Ok(options) => match run(rt, options) {
-            Ok(()) => ExitCode::SUCCESS,
+            Ok(status) => status,
             Err(fault) => fail(rt, &fault),
         },
         Err(error) => explain(rt, &error),
@@ -52,7 +66,7 @@ fn follow(rt: &HostRuntime, words: &[String]) -> ExitCode {
 }
 
 // Writes the help, or why the command line is refused.
-fn explain(rt: &HostRuntime, error: &Error) -> ExitCode {
+fn explain(rt: &(impl Print + Eprint), error: &Error) -> ExitCode {
     if error.kind() == ErrorKind::OutOfMemory {
         return fail(rt, &RunFault::NoMemory);
     }
@@ -67,24 +81,106 @@ fn explain(rt: &HostRuntime, error: &Error) -> ExitCode {
 }
 
 // Names a fault on standard error.
-fn fail(rt: &HostRuntime, fault: &RunFault) -> ExitCode {
+fn fail(rt: &impl Eprint, fault: &RunFault) -> ExitCode {
     let text = fault_text(fault);
     let _ = eprintln!(rt; "{text}");
     ExitCode::from(fault_status(fault))
 }
 
-// Runs the script on standard input, and writes the journal where it is asked for. Replies go through a buffer, which is
-// flushed before more is read.
-fn run(rt: &HostRuntime, options: Options) -> Result<(), RunFault> {
-    let alloc = rt.alloc();
-    let Ok(output) = BufWriter::with_capacity(alloc, WRITTEN_AT_ONCE, io::writer(rt)) else {
+// Runs the script on standard input, and tells the exit status. Replies go through a buffer, which is flushed before more
+// is read.
+fn run<H: Runtime + AllocGlobal + Threads + Wait + Sync>(
+    rt: &H,
+    options: Options,
+) -> Result<ExitCode, RunFault> {
+    let Ok(output) = BufWriter::with_capacity(rt.alloc(), WRITTEN_AT_ONCE, io::writer(rt)) else {
         return Err(RunFault::NoMemory);
     };
-    let mut reader = Port::new(rt.reader());
-    let mut writer = Port::new(output);
-    let (book, names) = run_script(alloc, Book::new(alloc), &mut reader, &mut writer)?;
+    run_between(
+        rt,
+        options,
+        &mut Port::new(rt.reader()),
+        &mut Port::new(output),
+    )
+}
+
+// Runs the script from the reader to the writer as the options say.
+fn run_between<H: Eprint + AllocGlobal + Threads + Wait + Sync, R: Read, W: Write>(
+    rt: &H,
+    options: Options,
+    reader: &mut Port<R>,
+    writer: &mut Port<W>,
+) -> Result<ExitCode, RunFault>
+    requires reads { has_failed reader.old ≡ false }
+    requires writes { has_failed writer.old ≡ false }
+{
+    let mut findings = Findings::new();
+    let agreed = if options.workers == 0 {
+        run_alone(rt.alloc(), options, reader, writer, &mut findings)?;
+        true
+    } else {
+        run_beside(rt, options, reader, writer, &mut findings)?
+    };
+    if !agreed {
+        let _ = eprintln!(rt; "scm_monitor: the journal is not what the sessions were answered");
+        return Ok(ExitCode::from(AUDIT_STATUS));
+    }
+    Ok(end(rt, options, &findings))
+}
+
+// The exit status of a script that was run whole: what was found where that is asked for.
+fn end(rt: &impl Eprint, options: Options, findings: &Findings) -> ExitCode {
+    if !options.check {
+        return ExitCode::SUCCESS;
+    }
+    if let Some(line) = findings.refused() {
+        let (number, refusal) = (line.number, line.refusal);
+        let _ = eprintln!(rt;
+            "scm_monitor: line {number}: refused {} {}",
+            refusal.number(),
+            refusal.text()
+        );
+    }
+    ExitCode::from(findings.status())
+}
+
+// Runs the script on this thread alone, and writes the journal where it is asked for.
+fn run_alone<R: Read, W: Write>(
+    alloc: Global,
+    options: Options,
+    reader: &mut Port<R>,
+    writer: &mut Port<W>,
+    findings: &mut Findings,
+) -> Result<(), RunFault>
+    requires reads { has_failed reader.old ≡ false }
+    requires writes { has_failed writer.old ≡ false }
+{
+    let (book, names) = run_script(alloc, Book::new(alloc), reader, writer, findings)?;
     if options.journal {
-        write_journal(&mut writer, &book, names.as_slice())?;
+        write_journal(writer, &book, names.as_slice())?;
     }
     Ok(())
+}
+
+// The same beside workers. Tells whether the audit at the end agreed; where it didn't, no journal is written.
+fn run_beside<H: AllocGlobal + Threads + Wait + Sync, R: Read, W: Write>(
+    rt: &H,
+    options: Options,
+    reader: &mut Port<R>,
+    writer: &mut Port<W>,
+    findings: &mut Findings,
+) -> Result<bool, RunFault>
+    requires reads { has_failed reader.old ≡ false }
+    requires writes { has_failed writer.old ≡ false }
+{
+    let alloc = rt.alloc();
+    let token = BookToken::new(alloc)?;
+    let workers = usize::from(options.workers);
+    let Ended { audit, names } = run_with_workers::<Brand, R, W, FreeGate, H>(
+        rt, alloc, token, reader, writer, findings, &FreeGate, workers,
+    )?;
+    if options.journal && audit.agreed {
+        write_journal(writer, &audit.book, names.as_slice())?;
+    }
+    Ok(audit.agreed)
 }

@@ -1,9 +1,7 @@
 //! What is known of a trace before the walk.
 use crate::beginning::Beginning;
-use crate::numbering::Numbering;
 use crate::sources::Sources;
-use crate::values::Values;
-use crate::writes::Writes;
+use scm_clocks::{Numbering, Values, Writes};
 use scm_sequences::{Lengths, Sequences};
 use std::alloc::Global;
 
@@ -27,13 +25,15 @@ impl Facts {
         lengths: &Lengths,
     ) -> Option<Facts> {
         let numbering = Numbering::new(alloc, &beginning.counts, sequences, lengths)?;
+        let procs = numbering.procs()?;
+        let ops = numbering.len()?;
         let cells = u32::try_from(beginning.contents.len()).ok()?;
         let mut values = Values::new(alloc, &beginning.contents, &numbering)?;
-        let writes = Writes::new(alloc, cells, &numbering, &values.written)?;
+        let writes = Writes::new(alloc, cells, &numbering, &values)?;
         let sources = Sources::new(alloc, &numbering, &mut values)?;
         Some(Facts {
-            procs: numbering.procs()?,
-            ops: numbering.len()?,
+            procs,
+            ops,
             cells,
             numbering,
             values,
@@ -44,12 +44,12 @@ impl Facts {
 
     /// The value that an operation found, by number; `None` for a write.
     pub(crate) fn found(&self, x: u32) -> Option<u32> {
-        *self.values.found.get(x as usize)?
+        self.values.found(x)
     }
 
     /// The value that an operation wrote, by number; `None` for a read.
     pub(crate) fn written(&self, x: u32) -> Option<u32> {
-        *self.values.written.get(x as usize)?
+        self.values.written(x)
     }
 
     /// The source of a read, if it is known.

@@ -2,24 +2,18 @@
 //! believed, and no contract here says more than that a call is safe and ends; `scm_schedules::is_legal` is the judge.
 #![tactic(auto)]
 
+mod awaited;
 mod beginning;
 mod choosing;
-mod clocks;
 mod ending;
 mod facts;
-mod flags;
-mod grid;
 mod memory;
-mod numbering;
-mod numbers;
 mod order;
 mod proposal;
 mod rank;
 mod saturation;
 mod sources;
-mod values;
 mod walk;
-mod writes;
 
 pub use ending::is_near_end;
 pub use proposal::propose;

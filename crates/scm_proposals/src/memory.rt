@@ -1,6 +1,6 @@
 //! What the cells hold during the walk.
 use crate::facts::Facts;
-use crate::numbers::Numbers;
+use scm_clocks::Numbers;
 use std::alloc::Global;
 
 /// The contents of each cell, who wrote them, and how often the cell was written.
@@ -26,7 +26,7 @@ impl Memory {
             writers: Numbers::zeros(alloc, facts.cells)?,
             versions: Numbers::zeros(alloc, facts.cells)?,
         };
-        for first in facts.values.firsts.iter() {
+        for first in facts.values.firsts() {
             memory.contents.push(*first).ok()?;
         }
         for cell in 0..facts.cells {

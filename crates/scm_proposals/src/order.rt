@@ -1,8 +1,6 @@
 //! What comes before what in every legal schedule that begins with what was made so far.
-use crate::clocks::Clocks;
 use crate::facts::Facts;
-use crate::flags::Flags;
-use crate::numbers::{Numbers, is_covered};
+use scm_clocks::{Clocks, Flags, Numbers, is_covered};
 use std::alloc::Global;
 
 /// How far beyond the front operations are visited during the walk.

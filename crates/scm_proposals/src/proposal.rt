@@ -85,13 +85,12 @@ impl Proposer<'_> {
 
     /// A schedule that begins with so many places of the earlier one.
     fn complete(&self, kept: usize) -> Option<Vec<u8>> {
-        let beginning = self.beginning(kept)?;
-        let facts = Facts::new(self.alloc, &beginning, self.sequences, self.lengths)?;
-        let fuel = self.fuel(u64::from(facts.ops));
-        let mut order = Order::new(self.alloc, facts, fuel)?;
-        order.spread()?;
-        let mut walk = Walk::new(self.alloc, order)?;
-        walk.make_all()?;
+        let walk = self.walk(kept)?;
+        self.schedule(kept, &walk)
+    }
+
+    /// So many places of the earlier schedule, and then the walk.
+    fn schedule(&self, kept: usize, walk: &Walk) -> Option<Vec<u8>> {
         let mut schedule = Vec::new(self.alloc);
         for place in self.earlier.get(..kept)? {
             schedule.push(*place).ok()?;
@@ -99,6 +98,24 @@ impl Proposer<'_> {
         walk.add_to(&mut schedule)?;
         Some(schedule)
     }
+
+    /// A walk to the end that goes on from so many places.
+    fn walk(&self, kept: usize) -> Option<Walk> {
+        let mut walk = Walk::new(self.alloc, self.order(kept)?)?;
+        walk.make_all()?;
+        Some(walk)
+    }
+
+    /// What comes before what after so many places.
+    fn order(&self, kept: usize) -> Option<Order> {
+        let beginning = self.beginning(kept)?;
+        let facts = Facts::new(self.alloc, &beginning, self.sequences, self.lengths)?;
+        let fuel = self.fuel(u64::from(facts.ops));
+        let mut order = Order::new(self.alloc, facts, fuel)?;
+        order.spread()?;
+        Some(order)
+    }
+
     /// The fuel for so many operations.
     fn fuel(&self, ops: u64) -> u64 {
         ops.saturating_mul(FUEL)

@@ -1,6 +1,6 @@
 //! The consequences of what is known, until there are no more.
-use crate::numbers::is_covered;
 use crate::order::Order;
+use scm_clocks::is_covered;
 
 impl Order {
     /// Visits what is flagged until nothing is. `None` where the order contradicts itself or the fuel is spent; nothing

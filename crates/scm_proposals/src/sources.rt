@@ -1,7 +1,5 @@
 //! Where reads have their values from.
-use crate::grid::Grid;
-use crate::numbering::Numbering;
-use crate::values::Values;
+use scm_clocks::{Grid, Numbering, Values};
 use std::alloc::Global;
 
 /// The writer of a value, as far as it is known: an operation, or the first contents of a cell, which stand after the
@@ -23,15 +21,15 @@ pub(crate) struct Sources {
 
 // What is known of the writers of each value. An open cell has at first a value that is read and that nobody writes.
 fn writers(alloc: Global, numbering: &Numbering, values: &mut Values) -> Option<Vec<Writer>> {
-    let mut writers = vec![in alloc; Writer::Nobody; values.count as usize].ok()?;
-    for (x, written) in values.written.iter().enumerate() {
-        if let Some(value) = written {
-            note(&mut writers, *value, u32::try_from(x).ok()?)?;
+    let mut writers = vec![in alloc; Writer::Nobody; values.count() as usize].ok()?;
+    let ops = numbering.len()?;
+    for x in 0..ops {
+        if let Some(value) = values.written(x) {
+            note(&mut writers, value, x)?;
         }
     }
     fill_open(numbering, values, &writers)?;
-    let ops = numbering.len()?;
-    for (cell, first) in values.firsts.iter().enumerate() {
+    for (cell, first) in values.firsts().iter().enumerate() {
         if let Some(value) = first {
             note(
                 &mut writers,
@@ -53,14 +51,13 @@ fn note(writers: &mut [Writer], value: u32, x: u32) -> Option<()> {
 }
 
 fn fill_open(numbering: &Numbering, values: &mut Values, writers: &[Writer]) -> Option<()> {
-    for (x, found) in values.found.iter().enumerate() {
-        let Some(value) = *found else {
+    for x in 0..numbering.len()? {
+        let Some(value) = values.found(x) else {
             continue;
         };
-        let cell = numbering.cell(u32::try_from(x).ok()?)?;
-        let first = values.firsts.get_mut(cell as usize)?;
-        if first.is_none() && matches!(writers.get(value as usize)?, Writer::Nobody) {
-            *first = Some(value);
+        let cell = numbering.cell(x)?;
+        if values.first(cell)?.is_none() && matches!(writers.get(value as usize)?, Writer::Nobody) {
+            values.set_first(cell, value)?;
         }
     }
     Some(())
@@ -74,20 +71,30 @@ impl Sources {
         values: &mut Values,
     ) -> Option<Sources> {
         let writers = writers(alloc, numbering, values)?;
-        let cells = u32::try_from(values.firsts.len()).ok()?;
+        let cells = u32::try_from(values.firsts().len()).ok()?;
         let rows = numbering.len()?.checked_add(cells)?;
         let mut sources = Sources {
             of: Vec::new(alloc),
             readers: Grid::zeros(alloc, rows, numbering.procs()?)?,
         };
-        for (x, found) in values.found.iter().enumerate() {
-            let source = match found {
-                Some(value) => sources.find(numbering, &writers, u32::try_from(x).ok()?, *value)?,
+        sources.find_all(numbering, values, &writers)?;
+        Some(sources)
+    }
+
+    fn find_all(
+        &mut self,
+        numbering: &Numbering,
+        values: &Values,
+        writers: &[Writer],
+    ) -> Option<()> {
+        for x in 0..numbering.len()? {
+            let source = match values.found(x) {
+                Some(value) => self.find(numbering, writers, x, value)?,
                 None => None,
             };
-            sources.of.push(source).ok()?;
+            self.of.push(source).ok()?;
         }
-        Some(sources)
+        Some(())
     }
 
     // The source of an operation that found this value.

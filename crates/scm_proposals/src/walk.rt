@@ -1,9 +1,10 @@
 //! The walk: one operation after the other.
+use crate::awaited::Awaited;
 use crate::choosing::Choice;
 use crate::memory::{Before, Memory};
-use crate::numbers::Numbers;
 use crate::order::Order;
 use crate::rank::Rank;
+use scm_clocks::Numbers;
 use std::alloc::Global;
 
 /// How many visits the consequences of one write may take.
@@ -15,12 +16,7 @@ pub(crate) struct Walk {
     pub(crate) order: Order,
     pub(crate) memory: Memory,
     pub(crate) last: u32,
-    /// For each writer how many known readers are not made.
-    pub(crate) waiting: Numbers,
-    /// For each value how many reads whose source isn't known are not made.
-    pub(crate) reads: Numbers,
-    /// For each value how many writes are not made.
-    pub(crate) writes: Numbers,
+    pub(crate) awaited: Awaited,
     // For each write the version of its cell, and 1, at which it may not be made.
     barred: Numbers,
     made: Vec<Made>,
@@ -49,52 +45,17 @@ impl Walk {
         order.begin_walk();
         order.share = SHARE;
         let memory = Memory::new(alloc, &order.facts)?;
-        let mut walk = Walk {
+        let awaited = Awaited::new(alloc, &order.facts)?;
+        let barred = Numbers::zeros(alloc, order.facts.ops)?;
+        Some(Walk {
+            order,
             memory,
             last: 0,
-            waiting: Numbers::zeros(alloc, order.facts.ops.checked_add(order.facts.cells)?)?,
-            reads: Numbers::zeros(alloc, order.facts.values.count)?,
-            writes: Numbers::zeros(alloc, order.facts.values.count)?,
-            barred: Numbers::zeros(alloc, order.facts.ops)?,
+            awaited,
+            barred,
             made: Vec::new(alloc),
             decisions: Vec::new(alloc),
-            order,
-        };
-        walk.count_all()?;
-        Some(walk)
-    }
-
-    // Counts what is to be made.
-    fn count_all(&mut self) -> Option<()> {
-        for x in 0..self.order.facts.ops {
-            self.await_again(x)?;
-        }
-        Some(())
-    }
-
-    // Counts `x` among what is to be made.
-    fn await_again(&mut self, x: u32) -> Option<()> {
-        if let Some(source) = self.order.facts.source(x) {
-            self.waiting.raise(source)?;
-        } else if let Some(found) = self.order.facts.found(x) {
-            self.reads.raise(found)?;
-        }
-        match self.order.facts.written(x) {
-            Some(written) => self.writes.raise(written),
-            None => Some(()),
-        }
-    }
-
-    fn await_no_more(&mut self, x: u32) -> Option<()> {
-        if let Some(source) = self.order.facts.source(x) {
-            self.waiting.lower(source)?;
-        } else if let Some(found) = self.order.facts.found(x) {
-            self.reads.lower(found)?;
-        }
-        match self.order.facts.written(x) {
-            Some(written) => self.writes.lower(written),
-            None => Some(()),
-        }
+        })
     }
 
     /// Makes all operations. `None` where it gives up.
@@ -162,7 +123,7 @@ impl Walk {
         self.last = process;
         self.order.counts.raise(process)?;
         self.order.flag_entering(process)?;
-        self.await_no_more(x)?;
+        self.awaited.remove(&self.order.facts, x)?;
         if let Some(found) = self.order.facts.found(x) {
             self.memory.hold(cell, found)?;
         }
@@ -176,7 +137,7 @@ impl Walk {
         let Made { x, process, before } = self.made.pop()?;
         let cell = self.order.facts.numbering.cell(x)?;
         self.order.counts.lower(process)?;
-        self.await_again(x)?;
+        self.awaited.add(&self.order.facts, x)?;
         self.barred.set(x, 0)?;
         self.memory.put_back(cell, before)
     }

@@ -7,30 +7,30 @@ fn store_buffering_at_its_budget(rt: HostRuntime) {
     expect_exchanges(
         &rt,
         rt.alloc(),
-        &[
-            ("a open t 2 8 x:w=0 y:w=0", "a ok"),
-            ("a claim t 0", "a ok"),
-            ("a claim t 1", "a ok"),
-            ("a do t 0 sw x 1", "a ok"),
-            ("a do t 0 lw y 0", "a ok"),
-            ("a do t 1 sw y 1", "a ok"),
-            ("a do t 1 lw x 0", "a ok"),
-            ("a ask t", "a inconsistent"),
-            ("a open u 2 7 x:w=0 y:w=0", "a ok"),
-            ("a claim u 0", "a ok"),
-            ("a claim u 1", "a ok"),
-            ("a do u 0 sw x 1", "a ok"),
-            ("a do u 0 lw y 0", "a ok"),
-            ("a do u 1 sw y 1", "a ok"),
-            ("a do u 1 lw x 0", "a ok"),
-            ("a ask u", "a undecided"),
-            ("a why u", "a undecided"),
-            ("a raise u 6", "a refused 16 bad-budget"),
-            ("a raise u 8", "a ok"),
-            ("a ask u", "a inconsistent"),
-            ("a raise t 9", "a ok"),
-            ("a ask t", "a inconsistent"),
-        ],
+        "
+        a open t 2 8 x:w=0 y:w=0 => a ok
+        a claim t 0 => a ok
+        a claim t 1 => a ok
+        a do t 0 sw x 1 => a ok
+        a do t 0 lw y 0 => a ok
+        a do t 1 sw y 1 => a ok
+        a do t 1 lw x 0 => a ok
+        a ask t => a inconsistent
+        a open u 2 7 x:w=0 y:w=0 => a ok
+        a claim u 0 => a ok
+        a claim u 1 => a ok
+        a do u 0 sw x 1 => a ok
+        a do u 0 lw y 0 => a ok
+        a do u 1 sw y 1 => a ok
+        a do u 1 lw x 0 => a ok
+        a ask u => a undecided
+        a why u => a undecided
+        a raise u 6 => a refused 16 bad-budget
+        a raise u 8 => a ok
+        a ask u => a inconsistent
+        a raise t 9 => a ok
+        a ask t => a inconsistent
+        ",
     );
 }
 
@@ -40,21 +40,21 @@ fn a_budget_raised_step_by_step(rt: HostRuntime) {
     expect_exchanges(
         &rt,
         rt.alloc(),
-        &[
-            ("a open t 1 1 x:w=0", "a ok"),
-            ("a ask t", "a consistent 0"),
-            ("a claim t 0", "a ok"),
-            ("a do t 0 sw x 1", "a ok"),
-            ("a do t 0 lw x 2", "a ok"),
-            ("a ask t", "a undecided"),
-            ("a raise t 2", "a ok"),
-            ("a ask t", "a inconsistent"),
-            ("a raise t 2", "a ok"),
-            ("a raise t 1", "a refused 16 bad-budget"),
-            ("a raise t 1000001", "a refused 16 bad-budget"),
-            ("a raise t 1000000", "a ok"),
-            ("a ask t", "a inconsistent"),
-        ],
+        "
+        a open t 1 1 x:w=0 => a ok
+        a ask t => a consistent 0
+        a claim t 0 => a ok
+        a do t 0 sw x 1 => a ok
+        a do t 0 lw x 2 => a ok
+        a ask t => a undecided
+        a raise t 2 => a ok
+        a ask t => a inconsistent
+        a raise t 2 => a ok
+        a raise t 1 => a refused 16 bad-budget
+        a raise t 1000001 => a refused 16 bad-budget
+        a raise t 1000000 => a ok
+        a ask t => a inconsistent
+        ",
     );
 }
 
@@ -64,16 +64,16 @@ fn a_consistent_mark_within_its_budget(rt: HostRuntime) {
     expect_exchanges(
         &rt,
         rt.alloc(),
-        &[
-            ("a open t 2 2 x:w=0", "a ok"),
-            ("a claim t 0", "a ok"),
-            ("a do t 0 sw x 1", "a ok"),
-            ("a mark t", "a ok 0"),
-            ("a do t 0 sw x 2", "a ok"),
-            ("a do t 0 lw x 9", "a ok"),
-            ("a ask t 0", "a consistent 1 0"),
-            ("a ask t", "a undecided"),
-        ],
+        "
+        a open t 2 2 x:w=0 => a ok
+        a claim t 0 => a ok
+        a do t 0 sw x 1 => a ok
+        a mark t => a ok 0
+        a do t 0 sw x 2 => a ok
+        a do t 0 lw x 9 => a ok
+        a ask t 0 => a consistent 1 0
+        a ask t => a undecided
+        ",
     );
 }
 
@@ -83,18 +83,18 @@ fn an_inconsistent_mark_within_its_budget(rt: HostRuntime) {
     expect_exchanges(
         &rt,
         rt.alloc(),
-        &[
-            ("a open t 2 2 x:w=0", "a ok"),
-            ("a claim t 0", "a ok"),
-            ("b claim t 1", "b ok"),
-            ("a do t 0 lw x 9", "a ok"),
-            ("a mark t", "a ok 0"),
-            ("b do t 1 sw x 1", "b ok"),
-            ("b do t 1 sw x 2", "b ok"),
-            ("a ask t 0", "a inconsistent"),
-            ("a why t 0", "a because 1 0,0/0"),
-            ("a ask t", "a undecided"),
-        ],
+        "
+        a open t 2 2 x:w=0 => a ok
+        a claim t 0 => a ok
+        b claim t 1 => b ok
+        a do t 0 lw x 9 => a ok
+        a mark t => a ok 0
+        b do t 1 sw x 1 => b ok
+        b do t 1 sw x 2 => b ok
+        a ask t 0 => a inconsistent
+        a why t 0 => a because 1 0,0/0
+        a ask t => a undecided
+        ",
     );
 }
 
@@ -104,21 +104,21 @@ fn a_mark_asked_about_after_a_spent_budget(rt: HostRuntime) {
     expect_exchanges(
         &rt,
         rt.alloc(),
-        &[
-            ("a open t 2 2 x:w=0", "a ok"),
-            ("a claim t 0", "a ok"),
-            ("b claim t 1", "b ok"),
-            ("a do t 0 sw x 1", "a ok"),
-            ("a mark t", "a ok 0"),
-            ("a do t 0 lw x 9", "a ok"),
-            ("b do t 1 sw x 2", "b ok"),
-            ("a ask t", "a undecided"),
-            ("a ask t 0", "a consistent 1 0"),
-            ("a back t 0", "a ok"),
-            ("b do t 1 lw x 1", "b ok"),
-            ("a raise t 3", "a ok"),
-            ("a ask t", "a consistent 2 0 1"),
-        ],
+        "
+        a open t 2 2 x:w=0 => a ok
+        a claim t 0 => a ok
+        b claim t 1 => b ok
+        a do t 0 sw x 1 => a ok
+        a mark t => a ok 0
+        a do t 0 lw x 9 => a ok
+        b do t 1 sw x 2 => b ok
+        a ask t => a undecided
+        a ask t 0 => a consistent 1 0
+        a back t 0 => a ok
+        b do t 1 lw x 1 => b ok
+        a raise t 3 => a ok
+        a ask t => a consistent 2 0 1
+        ",
     );
 }
 
@@ -128,21 +128,21 @@ fn schedules_beyond_the_budget(rt: HostRuntime) {
     expect_exchanges(
         &rt,
         rt.alloc(),
-        &[
-            ("a open t 2 3 x:w=0", "a ok"),
-            ("a claim t 0", "a ok"),
-            ("a claim t 1", "a ok"),
-            ("a do t 1 sw x 1", "a ok"),
-            ("a mark t", "a ok 0"),
-            ("a do t 0 lw x 0", "a ok"),
-            ("a ask t", "a consistent 2 0 1"),
-            ("a ask t 0", "a consistent 1 1"),
-            ("a why t", "a consistent 2 0 1"),
-            ("a do t 0 lw x 1", "a ok"),
-            ("a ask t", "a consistent 3 0 1 0"),
-            ("a back t 0", "a ok"),
-            ("a ask t", "a consistent 1 1"),
-        ],
+        "
+        a open t 2 3 x:w=0 => a ok
+        a claim t 0 => a ok
+        a claim t 1 => a ok
+        a do t 1 sw x 1 => a ok
+        a mark t => a ok 0
+        a do t 0 lw x 0 => a ok
+        a ask t => a consistent 2 0 1
+        a ask t 0 => a consistent 1 1
+        a why t => a consistent 2 0 1
+        a do t 0 lw x 1 => a ok
+        a ask t => a consistent 3 0 1 0
+        a back t 0 => a ok
+        a ask t => a consistent 1 1
+        ",
     );
 }
 
@@ -152,20 +152,20 @@ fn raises_that_are_refused(rt: HostRuntime) {
     expect_exchanges(
         &rt,
         rt.alloc(),
-        &[
-            ("a open t 1 5 x:w=0", "a ok"),
-            ("a raise u 5", "a refused 2 no-such-trace"),
-            ("b raise u 0", "b refused 2 no-such-trace"),
-            ("b raise t 9", "b refused 9 not-owner"),
-            ("b raise t 0", "b refused 9 not-owner"),
-            ("a raise t 0", "a refused 16 bad-budget"),
-            ("a raise t 4", "a refused 16 bad-budget"),
-            ("a raise t 1000001", "a refused 16 bad-budget"),
-            ("a raise t 18446744073709551616", "a refused 16 bad-budget"),
-            ("a raise t", "a refused 1 bad-line"),
-            ("a raise t 5 5", "a refused 1 bad-line"),
-            ("a raise t -5", "a refused 1 bad-line"),
-            ("a raise t 005", "a ok"),
-        ],
+        "
+        a open t 1 5 x:w=0 => a ok
+        a raise u 5 => a refused 2 no-such-trace
+        b raise u 0 => b refused 2 no-such-trace
+        b raise t 9 => b refused 9 not-owner
+        b raise t 0 => b refused 9 not-owner
+        a raise t 0 => a refused 16 bad-budget
+        a raise t 4 => a refused 16 bad-budget
+        a raise t 1000001 => a refused 16 bad-budget
+        a raise t 18446744073709551616 => a refused 16 bad-budget
+        a raise t => a refused 1 bad-line
+        a raise t 5 5 => a refused 1 bad-line
+        a raise t -5 => a refused 1 bad-line
+        a raise t 005 => a ok
+        ",
     );
 }

@@ -2,6 +2,8 @@
 
 use scm_book::{Book, Call, Decl, Entry, Reply};
 use scm_cells::{Initial, Name, narrow};
+use scm_frontier::Situation;
+use scm_orders::{Edge, orders_refute};
 use scm_schedules::{is_legal, refutes};
 use scm_sequences::{MOST_CELLS, MOST_PROCESSES, Sequences};
 use std::alloc::Global;
@@ -23,12 +25,14 @@ struct Opening {
 /// `inconsistent` is asked for its refutation first.
 pub(crate) fn check_evidence(rt: &impl Abort, alloc: Global, entries: &[Entry]) {
     for (place, entry) in entries.iter().enumerate() {
-        let (Call::Ask { name, mark } | Call::Why { name, mark }) = &entry.call else {
+        let (Call::Ask { name, mark } | Call::Why { name, mark } | Call::Cycle { name, mark }) =
+            &entry.call
+        else {
             continue;
         };
         let (earlier, _) = entries.split_at_checked(place).expect(rt, "a place");
         match &entry.reply {
-            Reply::Consistent { .. } | Reply::Because(_) => {
+            Reply::Consistent { .. } | Reply::Because(_) | Reply::Cycle(_) => {
                 check_at(rt, alloc, earlier, *name, *mark, &entry.reply);
             }
             Reply::Inconsistent => {
@@ -65,34 +69,66 @@ fn check_at(
     evidence: &Reply,
 ) {
     let opening = opening_of(rt, alloc, entries, name);
-    let mut book = book_after(rt, alloc, entries);
-    if let Some(mark) = mark {
-        assert!(rt; matches!(book.back(opening.owner, name, mark), Reply::Done));
-    }
-    let sequences = sequences_of(rt, alloc, &mut book, name, opening.procs);
-    let Opening {
-        names,
-        initials,
-        ..
-    } = opening;
-    let lengths = sequences.lengths();
-    assert!(rt; initials.len() <= MOST_CELLS);
-    assert!(rt; sequences.names_cells_below(initials.len()));
-    assert!(rt; lengths.within(&sequences.lengths()));
+    let sequences = sequences_at(rt, alloc, entries, &opening, name, mark);
     match evidence {
         Reply::Consistent { schedule, fixed } => {
-            assert!(rt; is_legal(&initials, &sequences, &lengths, schedule));
-            let given = initials_given(rt, alloc, &names, &initials, fixed);
-            assert!(rt; given.len() <= MOST_CELLS);
-            assert!(rt; sequences.names_cells_below(given.len()));
-            assert!(rt; is_legal(&given, &sequences, &lengths, schedule));
+            check_schedule(rt, &opening.initials, &sequences, schedule);
+            let given = initials_given(rt, alloc, &opening.names, &opening.initials, fixed);
+            check_schedule(rt, &given, &sequences, schedule);
         }
         Reply::Because(situations) => {
-            let refuted = refutes(alloc, &initials, &sequences, &lengths, situations);
-            assert!(rt; refuted.expect(rt, "there is memory"));
+            check_refutation(rt, alloc, &opening.initials, &sequences, situations);
         }
+        Reply::Cycle(edges) => check_cycle(rt, &opening.initials, &sequences, edges),
         _ => panic!(rt; "no evidence"),
     }
+}
+
+fn check_schedule(
+    rt: &impl Abort,
+    initials: &[Option<u64>],
+    sequences: &Sequences,
+    schedule: &[u8],
+) {
+    let lengths = sequences.lengths();
+    assert!(rt; initials.len() <= MOST_CELLS && sequences.names_cells_below(initials.len()));
+    assert!(rt; lengths.within(&sequences.lengths()));
+    assert!(rt; is_legal(initials, sequences, &lengths, schedule));
+}
+
+fn check_refutation(
+    rt: &impl Abort,
+    alloc: Global,
+    initials: &[Option<u64>],
+    sequences: &Sequences,
+    situations: &[Situation],
+) {
+    let lengths = sequences.lengths();
+    assert!(rt; initials.len() <= MOST_CELLS && sequences.names_cells_below(initials.len()));
+    assert!(rt; lengths.within(&sequences.lengths()));
+    let refuted = refutes(alloc, initials, sequences, &lengths, situations);
+    assert!(rt; refuted == Ok(true), "there is memory, and it refutes");
+}
+
+fn check_cycle(rt: &impl Abort, initials: &[Option<u64>], sequences: &Sequences, edges: &[Edge]) {
+    assert!(rt; orders_refute(initials, sequences, &sequences.lengths(), edges));
+}
+
+// The sequences of the trace of this name after these calls, or at its mark.
+fn sequences_at(
+    rt: &impl Abort,
+    alloc: Global,
+    entries: &[Entry],
+    opening: &Opening,
+    name: Name,
+    mark: Option<u64>,
+) -> Sequences {
+    let mut book = book_after(rt, alloc, entries);
+    if let Some(mark) = mark {
+        let reply = book.back(opening.owner, name, mark);
+        assert!(rt; matches!(reply, Reply::Done));
+    }
+    sequences_of(rt, alloc, &mut book, name, opening.procs)
 }
 
 // How the trace of this name was opened last.

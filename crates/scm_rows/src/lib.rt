@@ -4,15 +4,27 @@
 #[cfg(test)]
 mod accesses;
 #[cfg(test)]
+mod beside;
+#[cfg(test)]
 mod book;
 #[cfg(test)]
 mod budgets;
+#[cfg(test)]
+mod cutting;
+#[cfg(test)]
+mod cycles;
 #[cfg(test)]
 mod evidence;
 #[cfg(test)]
 mod examples;
 #[cfg(test)]
+mod fakes;
+#[cfg(test)]
+mod journal_texts;
+#[cfg(test)]
 mod journals;
+#[cfg(test)]
+mod large_traces;
 #[cfg(test)]
 mod limits;
 #[cfg(test)]
@@ -22,7 +34,11 @@ mod litmus;
 #[cfg(test)]
 mod marks;
 #[cfg(test)]
+mod ports;
+#[cfg(test)]
 mod proposals;
+#[cfg(test)]
+mod read_lines;
 #[cfg(test)]
 mod real_size;
 #[cfg(test)]
@@ -30,6 +46,14 @@ mod refusals;
 #[cfg(test)]
 mod refutations;
 #[cfg(test)]
+mod reply_texts;
+#[cfg(test)]
+mod runs;
+#[cfg(test)]
 mod script;
+#[cfg(test)]
+mod scripts;
+#[cfg(test)]
+mod serial;
 #[cfg(test)]
 mod unset;

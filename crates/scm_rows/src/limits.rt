@@ -52,16 +52,16 @@ fn thirty_two_processes(rt: HostRuntime) {
     expect_exchanges(
         &rt,
         rt.alloc(),
-        &[
-            ("a open t 33 100 x:w=0", "a refused 5 bad-declaration"),
-            ("a open t 32 100 x:w=0", "a ok"),
-            ("a claim t 0", "a ok"),
-            ("b claim t 31", "b ok"),
-            ("b claim t 32", "b refused 6 no-such-process"),
-            ("b do t 31 lw x 1", "b ok"),
-            ("a do t 0 sw x 1", "a ok"),
-            ("a ask t", "a consistent 2 0 31"),
-        ],
+        "
+        a open t 33 100 x:w=0 => a refused 5 bad-declaration
+        a open t 32 100 x:w=0 => a ok
+        a claim t 0 => a ok
+        b claim t 31 => b ok
+        b claim t 32 => b refused 6 no-such-process
+        b do t 31 lw x 1 => b ok
+        a do t 0 sw x 1 => a ok
+        a ask t => a consistent 2 0 31
+        ",
     );
 }
 
@@ -71,12 +71,12 @@ fn a_refutation_of_nine_processes(rt: HostRuntime) {
     expect_exchanges(
         &rt,
         rt.alloc(),
-        &[
-            ("a open t 9 100 x:w=0", "a ok"),
-            ("a claim t 8", "a ok"),
-            ("a do t 8 lw x 1", "a ok"),
-            ("a why t", "a because 1 0,0,0,0,0,0,0,0,0/0"),
-        ],
+        "
+        a open t 9 100 x:w=0 => a ok
+        a claim t 8 => a ok
+        a do t 8 lw x 1 => a ok
+        a why t => a because 1 0,0,0,0,0,0,0,0,0/0
+        ",
     );
 }
 

@@ -9,19 +9,19 @@ fn a_return_changes_what_can_be_read(rt: HostRuntime) {
     expect_exchanges(
         &rt,
         rt.alloc(),
-        &[
-            ("a open t 2 100 x:w=0", "a ok"),
-            ("a claim t 0", "a ok"),
-            ("b claim t 1", "b ok"),
-            ("a mark t", "a ok 0"),
-            ("a do t 0 sw x 1", "a ok"),
-            ("a ask t", "a consistent 1 0"),
-            ("a back t 0", "a ok"),
-            ("a show t 0", "a ops 0"),
-            ("a do t 0 sw x 2", "a ok"),
-            ("b do t 1 lw x 2", "b ok"),
-            ("a ask t", "a consistent 2 0 1"),
-        ],
+        "
+        a open t 2 100 x:w=0 => a ok
+        a claim t 0 => a ok
+        b claim t 1 => b ok
+        a mark t => a ok 0
+        a do t 0 sw x 1 => a ok
+        a ask t => a consistent 1 0
+        a back t 0 => a ok
+        a show t 0 => a ops 0
+        a do t 0 sw x 2 => a ok
+        b do t 1 lw x 2 => b ok
+        a ask t => a consistent 2 0 1
+        ",
     );
 }
 
@@ -31,18 +31,18 @@ fn numbers_of_marks_after_a_return(rt: HostRuntime) {
     expect_exchanges(
         &rt,
         rt.alloc(),
-        &[
-            ("a open t 2 100 x:w=0", "a ok"),
-            ("a ask t 0", "a refused 14 no-such-mark"),
-            ("a mark t", "a ok 0"),
-            ("a mark t", "a ok 1"),
-            ("a back t 0", "a ok"),
-            ("a mark t", "a ok 1"),
-            ("a back t 2", "a refused 14 no-such-mark"),
-            ("a back t 1", "a ok"),
-            ("a why t 2", "a refused 14 no-such-mark"),
-            ("a why t 1", "a consistent 0"),
-        ],
+        "
+        a open t 2 100 x:w=0 => a ok
+        a ask t 0 => a refused 14 no-such-mark
+        a mark t => a ok 0
+        a mark t => a ok 1
+        a back t 0 => a ok
+        a mark t => a ok 1
+        a back t 2 => a refused 14 no-such-mark
+        a back t 1 => a ok
+        a why t 2 => a refused 14 no-such-mark
+        a why t 1 => a consistent 0
+        ",
     );
 }
 
@@ -52,28 +52,28 @@ fn questions_at_two_marks(rt: HostRuntime) {
     expect_exchanges(
         &rt,
         rt.alloc(),
-        &[
-            ("a open t 2 100 x:w=0", "a ok"),
-            ("a claim t 0", "a ok"),
-            ("b claim t 1", "b ok"),
-            ("a do t 0 sw x 1", "a ok"),
-            ("a mark t", "a ok 0"),
-            ("b do t 1 lw x 2", "b ok"),
-            ("a ask t", "a inconsistent"),
-            ("a ask t 0", "a consistent 1 0"),
-            ("a do t 0 sw x 2", "a ok"),
-            ("a mark t", "a ok 1"),
-            ("a ask t 1", "a consistent 3 0 0 1"),
-            ("a back t 0", "a ok"),
-            ("a ask t 1", "a refused 14 no-such-mark"),
-            ("a ask t", "a consistent 1 0"),
-            ("b do t 1 lw x 1", "b ok"),
-            ("a ask t", "a consistent 2 0 1"),
-            ("a mark t", "a ok 1"),
-            ("a ask t 1", "a consistent 2 0 1"),
-            ("a do t 0 sw x 3", "a ok"),
-            ("a ask t 1", "a consistent 2 0 1"),
-        ],
+        "
+        a open t 2 100 x:w=0 => a ok
+        a claim t 0 => a ok
+        b claim t 1 => b ok
+        a do t 0 sw x 1 => a ok
+        a mark t => a ok 0
+        b do t 1 lw x 2 => b ok
+        a ask t => a inconsistent
+        a ask t 0 => a consistent 1 0
+        a do t 0 sw x 2 => a ok
+        a mark t => a ok 1
+        a ask t 1 => a consistent 3 0 0 1
+        a back t 0 => a ok
+        a ask t 1 => a refused 14 no-such-mark
+        a ask t => a consistent 1 0
+        b do t 1 lw x 1 => b ok
+        a ask t => a consistent 2 0 1
+        a mark t => a ok 1
+        a ask t 1 => a consistent 2 0 1
+        a do t 0 sw x 3 => a ok
+        a ask t 1 => a consistent 2 0 1
+        ",
     );
 }
 
@@ -84,17 +84,17 @@ fn a_store_after_the_mark_explains_nothing_at_it(rt: HostRuntime) {
     expect_exchanges(
         &rt,
         rt.alloc(),
-        &[
-            ("a open t 2 100 x:w=0", "a ok"),
-            ("a claim t 0", "a ok"),
-            ("b claim t 1", "b ok"),
-            ("a do t 0 lw x 1", "a ok"),
-            ("a mark t", "a ok 0"),
-            ("b do t 1 sw x 1", "b ok"),
-            ("a ask t", "a consistent 2 1 0"),
-            ("a ask t 0", "a inconsistent"),
-            ("a why t 0", "a because 1 0,0/0"),
-        ],
+        "
+        a open t 2 100 x:w=0 => a ok
+        a claim t 0 => a ok
+        b claim t 1 => b ok
+        a do t 0 lw x 1 => a ok
+        a mark t => a ok 0
+        b do t 1 sw x 1 => b ok
+        a ask t => a consistent 2 1 0
+        a ask t 0 => a inconsistent
+        a why t 0 => a because 1 0,0/0
+        ",
     );
 }
 
@@ -104,20 +104,20 @@ fn claims_and_budget_stay_at_a_return(rt: HostRuntime) {
     expect_exchanges(
         &rt,
         rt.alloc(),
-        &[
-            ("a open t 2 2 x:w=0", "a ok"),
-            ("a mark t", "a ok 0"),
-            ("a claim t 0", "a ok"),
-            ("b claim t 1", "b ok"),
-            ("a raise t 4", "a ok"),
-            ("a do t 0 sw x 1", "a ok"),
-            ("a back t 0", "a ok"),
-            ("b claim t 0", "b refused 7 process-taken"),
-            ("b do t 1 sw x 2", "b ok"),
-            ("a raise t 3", "a refused 16 bad-budget"),
-            ("a show t 0", "a ops 0"),
-            ("a show t 1", "a ops 1 W x 2"),
-        ],
+        "
+        a open t 2 2 x:w=0 => a ok
+        a mark t => a ok 0
+        a claim t 0 => a ok
+        b claim t 1 => b ok
+        a raise t 4 => a ok
+        a do t 0 sw x 1 => a ok
+        a back t 0 => a ok
+        b claim t 0 => b refused 7 process-taken
+        b do t 1 sw x 2 => b ok
+        a raise t 3 => a refused 16 bad-budget
+        a show t 0 => a ops 0
+        a show t 1 => a ops 1 W x 2
+        ",
     );
 }
 
@@ -127,32 +127,32 @@ fn marks_and_returns_that_are_refused(rt: HostRuntime) {
     expect_exchanges(
         &rt,
         rt.alloc(),
-        &[
-            ("a open t 1 100 x:w=0", "a ok"),
-            ("a claim t 0", "a ok"),
-            ("a mark t", "a ok 0"),
-            ("a do t 0 sw x 1", "a ok"),
-            ("a mark u", "a refused 2 no-such-trace"),
-            ("b mark u", "b refused 2 no-such-trace"),
-            ("b mark t", "b refused 9 not-owner"),
-            ("a back u 0", "a refused 2 no-such-trace"),
-            ("b back u 9", "b refused 2 no-such-trace"),
-            ("b back t 0", "b refused 9 not-owner"),
-            ("b back t 1", "b refused 9 not-owner"),
-            ("a back t 1", "a refused 14 no-such-mark"),
-            ("a back t 18446744073709551616", "a refused 14 no-such-mark"),
-            ("a ask u 0", "a refused 2 no-such-trace"),
-            ("b ask t 1", "b refused 14 no-such-mark"),
-            ("b ask t 0", "b consistent 0"),
-            ("a show t 0", "a ops 1 W x 1"),
-            ("a mark t", "a ok 1"),
-            ("a mark", "a refused 1 bad-line"),
-            ("a mark t 0", "a refused 1 bad-line"),
-            ("a back t", "a refused 1 bad-line"),
-            ("a back t x", "a refused 1 bad-line"),
-            ("a ask t 0 0", "a refused 1 bad-line"),
-            ("a mark t", "a ok 2"),
-        ],
+        "
+        a open t 1 100 x:w=0 => a ok
+        a claim t 0 => a ok
+        a mark t => a ok 0
+        a do t 0 sw x 1 => a ok
+        a mark u => a refused 2 no-such-trace
+        b mark u => b refused 2 no-such-trace
+        b mark t => b refused 9 not-owner
+        a back u 0 => a refused 2 no-such-trace
+        b back u 9 => b refused 2 no-such-trace
+        b back t 0 => b refused 9 not-owner
+        b back t 1 => b refused 9 not-owner
+        a back t 1 => a refused 14 no-such-mark
+        a back t 18446744073709551616 => a refused 14 no-such-mark
+        a ask u 0 => a refused 2 no-such-trace
+        b ask t 1 => b refused 14 no-such-mark
+        b ask t 0 => b consistent 0
+        a show t 0 => a ops 1 W x 1
+        a mark t => a ok 1
+        a mark => a refused 1 bad-line
+        a mark t 0 => a refused 1 bad-line
+        a back t => a refused 1 bad-line
+        a back t x => a refused 1 bad-line
+        a ask t 0 0 => a refused 1 bad-line
+        a mark t => a ok 2
+        ",
     );
 }
 

@@ -1,7 +1,7 @@
 //! Rows of real size: thousands of situations, operations and tasks, and the longest names.
 use scm_book::{Book, run_events};
 use scm_expand::{Outcome, Task, expand};
-use scm_sessions::{Port, run_script};
+use scm_sessions::{Findings, Port, run_script};
 use std::alloc::{AllocError, Global};
 use std::process::Abort;
 use std::test::Fail;
@@ -19,7 +19,13 @@ const OTHER: &str = "other_cell_that_has_32_bytes_too";
 fn replies_to(rt: &impl Abort, alloc: Global, script: &str) -> Vec<u8> {
     let mut reader = Port::new(script.as_bytes());
     let mut writer = Port::new(Vec::new(alloc));
-    let ended = run_script(alloc, Book::new(alloc), &mut reader, &mut writer);
+    let ended = run_script(
+        alloc,
+        Book::new(alloc),
+        &mut reader,
+        &mut writer,
+        &mut Findings::new(),
+    );
     let _book = ended.expect(rt, "the run ended without a fault");
     writer.into_inner()
 }
@@ -135,7 +141,13 @@ fn more_tasks_than_are_there(rt: HostRuntime) -> Result<(), Fail> {
     let script = grid(rt.alloc(), 40)?;
     let mut reader = Port::new(script.as_bytes());
     let mut writer = Port::new(Vec::new(rt.alloc()));
-    let (mut book, _) = run_script(rt.alloc(), Book::new(rt.alloc()), &mut reader, &mut writer)?;
+    let (mut book, _) = run_script(
+        rt.alloc(),
+        Book::new(rt.alloc()),
+        &mut reader,
+        &mut writer,
+        &mut Findings::new(),
+    )?;
     for round in 1..=40 {
         let tasks = book.take(100)?;
         assert_eq!(rt; tasks.len(), 2 * round);

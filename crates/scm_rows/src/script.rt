@@ -2,7 +2,7 @@
 
 use crate::evidence::check_evidence;
 use scm_book::Book;
-use scm_sessions::{Port, run_script, write_journal};
+use scm_sessions::{Findings, Port, run_script, write_journal};
 use std::alloc::Global;
 use std::process::Abort;
 
@@ -10,7 +10,13 @@ use std::process::Abort;
 pub(crate) fn replies_to(rt: &impl Abort, alloc: Global, script: &[u8]) -> Vec<u8> {
     let mut reader = Port::new(script);
     let mut writer = Port::new(Vec::new(alloc));
-    let ended = run_script(alloc, Book::new(alloc), &mut reader, &mut writer);
+    let ended = run_script(
+        alloc,
+        Book::new(alloc),
+        &mut reader,
+        &mut writer,
+        &mut Findings::new(),
+    );
     let (book, _) = ended.expect(rt, "the run ended without a fault");
     check_evidence(rt, alloc, book.entries());
     writer.into_inner()
@@ -20,7 +26,13 @@ pub(crate) fn replies_to(rt: &impl Abort, alloc: Global, script: &[u8]) -> Vec<u
 pub(crate) fn replies_and_journal(rt: &impl Abort, alloc: Global, script: &[u8]) -> Vec<u8> {
     let mut reader = Port::new(script);
     let mut writer = Port::new(Vec::new(alloc));
-    let ended = run_script(alloc, Book::new(alloc), &mut reader, &mut writer);
+    let ended = run_script(
+        alloc,
+        Book::new(alloc),
+        &mut reader,
+        &mut writer,
+        &mut Findings::new(),
+    );
     let (book, names) = ended.expect(rt, "the run ended without a fault");
     check_evidence(rt, alloc, book.entries());
     write_journal(&mut writer, &book, names.as_slice()).expect(rt, "the journal was written");
@@ -41,14 +53,24 @@ pub(crate) fn expect_journal(rt: &impl Abort, alloc: Global, script: &str, repli
     assert!(rt; text == replies, "the replies and the journal are\n{text}");
 }
 
-/// Runs the lines on the left as one script, and stops the test where the replies aren't those on the right.
-pub(crate) fn expect_exchanges(rt: &impl Abort, alloc: Global, exchanges: &[(&str, &str)]) {
+/// What stands on the left of each `=>` as the lines of a script, and what stands on the right as the replies. They come as
+/// one text, since a table of pairs takes some six times as long to prove.
+pub(crate) fn halves_of(rt: &impl Abort, alloc: Global, exchanges: &str) -> (String, String) {
     let mut script = String::new(alloc);
     let mut replies = String::new(alloc);
-    for (line, reply) in exchanges {
-        push_line(&mut script, line).expect(rt, "there is memory");
+    for exchange in exchanges.trim().lines() {
+        let (line, reply) = exchange
+            .split_once(" => ")
+            .expect(rt, "a line and its reply");
+        push_line(&mut script, line.trim_start()).expect(rt, "there is memory");
         push_line(&mut replies, reply).expect(rt, "there is memory");
     }
+    (script, replies)
+}
+
+/// Stops the test where the lines on the left don't get the replies on the right.
+pub(crate) fn expect_exchanges(rt: &impl Abort, alloc: Global, exchanges: &str) {
+    let (script, replies) = halves_of(rt, alloc, exchanges);
     expect_replies(rt, alloc, script.as_str(), replies.as_str());
 }
 

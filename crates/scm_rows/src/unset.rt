@@ -7,16 +7,16 @@ fn a_load_tells_what_a_cell_held(rt: HostRuntime) {
     expect_exchanges(
         &rt,
         rt.alloc(),
-        &[
-            ("a open t 1 100 x:w=?", "a ok"),
-            ("a claim t 0", "a ok"),
-            ("a ask t", "a consistent 0"),
-            ("a do t 0 lw x 7", "a ok"),
-            ("a ask t", "a consistent 1 0 with x=7"),
-            ("a do t 0 lw x 8", "a ok"),
-            ("a ask t", "a inconsistent"),
-            ("a why t", "a because 2 0/? 1/7"),
-        ],
+        "
+        a open t 1 100 x:w=? => a ok
+        a claim t 0 => a ok
+        a ask t => a consistent 0
+        a do t 0 lw x 7 => a ok
+        a ask t => a consistent 1 0 with x=7
+        a do t 0 lw x 8 => a ok
+        a ask t => a inconsistent
+        a why t => a because 2 0/? 1/7
+        ",
     );
 }
 
@@ -26,14 +26,14 @@ fn a_load_before_a_store(rt: HostRuntime) {
     expect_exchanges(
         &rt,
         rt.alloc(),
-        &[
-            ("a open t 2 100 x:w=?", "a ok"),
-            ("a claim t 0", "a ok"),
-            ("b claim t 1", "b ok"),
-            ("a do t 0 lw x 3", "a ok"),
-            ("b do t 1 sw x 4", "b ok"),
-            ("a ask t", "a consistent 2 0 1 with x=3"),
-        ],
+        "
+        a open t 2 100 x:w=? => a ok
+        a claim t 0 => a ok
+        b claim t 1 => b ok
+        a do t 0 lw x 3 => a ok
+        b do t 1 sw x 4 => b ok
+        a ask t => a consistent 2 0 1 with x=3
+        ",
     );
 }
 
@@ -43,13 +43,13 @@ fn a_store_before_a_load(rt: HostRuntime) {
     expect_exchanges(
         &rt,
         rt.alloc(),
-        &[
-            ("a open t 1 100 x:w=?", "a ok"),
-            ("a claim t 0", "a ok"),
-            ("a do t 0 sw x 4", "a ok"),
-            ("a do t 0 lw x 4", "a ok"),
-            ("a ask t", "a consistent 2 0 0"),
-        ],
+        "
+        a open t 1 100 x:w=? => a ok
+        a claim t 0 => a ok
+        a do t 0 sw x 4 => a ok
+        a do t 0 lw x 4 => a ok
+        a ask t => a consistent 2 0 0
+        ",
     );
 }
 
@@ -59,12 +59,12 @@ fn a_swap_tells_what_a_cell_held(rt: HostRuntime) {
     expect_exchanges(
         &rt,
         rt.alloc(),
-        &[
-            ("a open t 1 100 z:d=?", "a ok"),
-            ("a claim t 0", "a ok"),
-            ("a do t 0 amoswap.d z 1 -1", "a ok"),
-            ("a ask t", "a consistent 1 0 with z=18446744073709551615"),
-        ],
+        "
+        a open t 1 100 z:d=? => a ok
+        a claim t 0 => a ok
+        a do t 0 amoswap.d z 1 -1 => a ok
+        a ask t => a consistent 1 0 with z=18446744073709551615
+        ",
     );
 }
 
@@ -74,15 +74,15 @@ fn two_loads_that_disagree(rt: HostRuntime) {
     expect_exchanges(
         &rt,
         rt.alloc(),
-        &[
-            ("a open t 2 100 x:w=?", "a ok"),
-            ("a claim t 0", "a ok"),
-            ("b claim t 1", "b ok"),
-            ("a do t 0 lw x 1", "a ok"),
-            ("b do t 1 lw x 2", "b ok"),
-            ("a ask t", "a inconsistent"),
-            ("a why t", "a because 3 0,0/? 0,1/2 1,0/1"),
-        ],
+        "
+        a open t 2 100 x:w=? => a ok
+        a claim t 0 => a ok
+        b claim t 1 => b ok
+        a do t 0 lw x 1 => a ok
+        b do t 1 lw x 2 => b ok
+        a ask t => a inconsistent
+        a why t => a because 3 0,0/? 0,1/2 1,0/1
+        ",
     );
 }
 
@@ -108,18 +108,18 @@ fn fixed_values_at_a_mark(rt: HostRuntime) {
     expect_exchanges(
         &rt,
         rt.alloc(),
-        &[
-            ("a open t 1 100 x:w=? y:w=5 z:d=? v:w=? u:w=?", "a ok"),
-            ("a claim t 0", "a ok"),
-            ("a do t 0 ld z 2", "a ok"),
-            ("a do t 0 sw v 9", "a ok"),
-            ("a do t 0 lw y 5", "a ok"),
-            ("a mark t", "a ok 0"),
-            ("a do t 0 lw x 0", "a ok"),
-            ("a do t 0 lw v 9", "a ok"),
-            ("a ask t", "a consistent 5 0 0 0 0 0 with x=0 z=2"),
-            ("a why t", "a consistent 5 0 0 0 0 0 with x=0 z=2"),
-            ("a ask t 0", "a consistent 3 0 0 0 with z=2"),
-        ],
+        "
+        a open t 1 100 x:w=? y:w=5 z:d=? v:w=? u:w=? => a ok
+        a claim t 0 => a ok
+        a do t 0 ld z 2 => a ok
+        a do t 0 sw v 9 => a ok
+        a do t 0 lw y 5 => a ok
+        a mark t => a ok 0
+        a do t 0 lw x 0 => a ok
+        a do t 0 lw v 9 => a ok
+        a ask t => a consistent 5 0 0 0 0 0 with x=0 z=2
+        a why t => a consistent 5 0 0 0 0 0 with x=0 z=2
+        a ask t 0 => a consistent 3 0 0 0 with z=2
+        ",
     );
 }

@@ -7,7 +7,9 @@ pub mod Joining
 pub mod Numbering
 pub mod Naming
 pub mod Cutting
+pub mod Finding
 pub mod Running
+pub mod Grouping
 pub mod Making
 pub mod Entries
 pub mod Sharing

@@ -8,7 +8,7 @@ use Rattle.scm_sequences.specs.declared.limits.TheConstants.{MOST_SESSIONS}
 use Rattle.scm_sequences.specs.declared.refusal.Refusal.{Refusal}
 use Rattle.scm_sequences.specs.declared.refusal.Refusal.TheVariants.{BadLine, NoSuchTrace, NameTaken, TooManyTraces, BadDeclaration, NoSuchProcess, ProcessTaken, NotClaimed, NotOwner, NoSuchCell, WidthMismatch, ValueOutOfRange, SequenceFull, NoSuchMark, TooManyMarks, BadBudget, JournalFull, NoMemory, TooManySessions}
 use Rattle.scm_cells.specs.Names.{name_eq}
-use Rattle.scm_book.specs.Calls.{CallData, ReplyData, done, marked, consistent, inconsistent, undecided, because, ops, listed, refused}
+use Rattle.scm_book.specs.Calls.{CallData, ReplyData, done, marked, consistent, inconsistent, undecided, because, cycle, unknown, ops, listed, refused}
 use Rattle.scm_book.specs.Journal.{makes_entry}
 use Rattle.scm_shared.specs.Passes.{Known, newcomer, Extended, SeenFull}
 use Rattle.scm_sessions.specs.Asking.{good}
@@ -68,6 +68,8 @@ no_entry (consistent schedule fixed) none = absurd (cc)
 no_entry inconsistent none = absurd (cc)
 no_entry undecided none = absurd (cc)
 no_entry (because situations) none = absurd (cc)
+no_entry (cycle edges) none = absurd (cc)
+no_entry unknown none = absurd (cc)
 no_entry (ops operations) none = absurd (cc)
 no_entry (listed names) none = absurd (cc)
 
@@ -98,6 +100,8 @@ became_is (consistent schedule fixed) line sessions = refl
 became_is inconsistent line sessions = refl
 became_is undecided line sessions = refl
 became_is (because situations) line sessions = refl
+became_is (cycle edges) line sessions = refl
+became_is unknown line sessions = refl
 became_is (ops operations) line sessions = refl
 became_is (listed names) line sessions = refl
 

@@ -1,5 +1,5 @@
 -- Each entry that a run makes is of a session whose name was entered.
-use Rattle.std.proofs.Common.{◌≡◌, inl, inr, ℕ, ◌<◌, ◌≤◌, List, [], ◌∷◌, ◌++◌, length, refl, sym, subst, arith, Bool, true, false, Option, MatchBool, if◌then◌else◌, length-append}
+use Rattle.std.proofs.Common.{◌≡◌, inl, inr, ℕ, ◌<◌, ◌≤◌, List, [], ◌∷◌, ◌++◌, length, refl, sym, ap₂, subst, arith, Bool, true, false, Option, MatchBool, if◌then◌else◌, length-append}
 use Rattle.std.proofs.lemmas.List.Elements.{All-nil, All-push, All-weaker}
 use Rattle.std.specs.List.{list_any, position_or_len}
 use Rattle.scm_cells.specs.Names.{name_eq}
@@ -7,8 +7,11 @@ use Rattle.scm_book.specs.Calls.{CallData, ReplyData, EntryData}
 use Rattle.scm_book.specs.Journal.{BookState, count_of, makes_entry, IsCall}
 use Rattle.scm_sessions.specs.Asking.{Asked, nothing, bad, good}
 use Rattle.scm_sessions.specs.Exchanges.{Exchange, Answers, RunsWhole}
+use Rattle.scm_sessions.specs.declared.findings.Findings.{Findings}
+use Rattle.scm_sessions.specs.Findings.{FindsWhole}
 use Rattle.scm_sessions.specs.JournalText.{AreNamed}
 use Rattle.scm_sessions.specs.Script.{ScriptState, script_state, session_of, is_entered, with_name, AnswersCall, IsScriptRun}
+use Rattle.scm_sessions.proofs.Running.{FindsWhole-map}
 
 module _ {X : Type 0} (test : X → Bool) where
   found_at : (b : Bool) (x : X) (xs : List X) → test x ≡ b → (list_any test xs ≡ true → position_or_len test xs < length xs)
@@ -104,3 +107,14 @@ RunsWhole-named {script} {left} {written} {after} {old} {new} {book} {ended} {na
     let later : IsNamed new = IsScriptRun-named old runs.exchanges new runs.run before in
     let R : List (List ℕ) → BookState → Type 0 = λ ns b. AreNamed ns b.journal in
     subst (λ (b : BookState). R names b) (sym same_book) (subst (λ (ns : List (List ℕ)). R ns new.book) (sym same_names) later)
+
+-- a run from no names, to these names and this book
+pub FindsWhole-named : {script left written after : Option (List ℕ)} {old new : ScriptState} {book ended : BookState} {names : List (List ℕ)} {found : Findings}
+    → FindsWhole script left written after (λ exchanges. IsScriptRun old exchanges new) found → old ≡ script_state [] book → names ≡ new.names → ended ≡ new.book
+    → FindsWhole script left written after (λ exchanges. IsScriptRun (script_state [] book) exchanges (script_state names ended)) found
+FindsWhole-named {script} {left} {written} {after} {old} {new} {book} {ended} {names} {found} runs starts same_names same_book =
+    let ends : new ≡ script_state names ended = sym (ap₂ script_state same_names same_book) in
+    FindsWhole-map (λ exchanges run.
+    let P : ScriptState → Type 0 = λ s. IsScriptRun old exchanges s in
+    let Q : ScriptState → Type 0 = λ s. IsScriptRun s exchanges (script_state names ended) in
+    subst Q starts (subst P ends run)) runs

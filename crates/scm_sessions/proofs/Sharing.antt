@@ -1,5 +1,5 @@
 -- The end of a run over a shared book: where the audit agrees, its journal has for each session what the run says.
-use Rattle.std.proofs.Common.{◌≡◌, ◌⊎◌, ℕ, zero, suc, ◌+◌, ◌<◌, ◌≤◌, List, [], ◌∷◌, ◌++◌, length, refl, sym, ap, ◌∙◌, subst, inl, inr, arith, append-nil, append_assoc, Option, None, Some, slice_get, Bool, true, false, ◌&&◌, ◌==◌, if◌then◌else◌, All, IsTrue}
+use Rattle.std.proofs.Common.{◌≡◌, ◌⊎◌, ℕ, zero, suc, ◌+◌, ◌<◌, ◌≤◌, List, [], ◌∷◌, ◌++◌, length, refl, sym, ap, ap₂, ◌∙◌, subst, inl, inr, arith, append-nil, append_assoc, Option, None, Some, slice_get, Bool, true, false, ◌&&◌, ◌==◌, if◌then◌else◌, All, IsTrue}
 use Rattle.std.specs.Option.{option_map_or}
 use Rattle.std.specs.List.{list_any, list_all, position_or_len}
 use Rattle.std.proofs.lemmas.List.Elements.{All-nil, All-cons, All-head, All-tail}
@@ -18,7 +18,9 @@ use Rattle.scm_sessions.specs.declared.ended.Ended.{Ended}
 use Rattle.scm_sessions.specs.SharedRuns.{FitsAsked, AllFit, became_entry, entry_in, entries_of, IsSharedRun}
 use Rattle.scm_sessions.specs.Callers.{Callers, callers, AreNumberedFrom, made_by, MakesCall}
 use Rattle.scm_sessions.specs.JournalText.{AreNamed}
-use Rattle.scm_sessions.proofs.Running.{RunsWholeLines-map, RunsPart-map}
+use Rattle.scm_sessions.specs.declared.findings.Findings.{Findings}
+use Rattle.scm_sessions.specs.Findings.{FindsWhole}
+use Rattle.scm_sessions.proofs.Running.{FindsWhole-map, RunsWholeLines-map, RunsPart-map}
 
 -- ---- exchange by exchange
 
@@ -154,3 +156,14 @@ shared_run ended passes exchanges lead numbered agrees = record {
       sym (LeadTo-made (callers [] []) exchanges (callers ended.names.items passes) name lead)
       ∙ agreed_by ended.names.items passes ended.audit.book.journal name numbered (agrees agreed);
 }
+
+-- a run from no sessions, to these names and passes
+pub FindsWhole-callers : {script left written after : Option (List ℕ)} {old new : Callers} {names : List (List ℕ)} {passes : List Known} {found : Findings}
+    → FindsWhole script left written after (λ exchanges. LeadTo MakesCall old exchanges new) found → old ≡ callers [] [] → names ≡ new.names → passes ≡ new.passes
+    → FindsWhole script left written after (λ exchanges. LeadTo MakesCall (callers [] []) exchanges (callers names passes)) found
+FindsWhole-callers {script} {left} {written} {after} {old} {new} {names} {passes} {found} runs starts same_names same_passes =
+    let ends : new ≡ callers names passes = sym (ap₂ callers same_names same_passes) in
+    FindsWhole-map (λ exchanges run.
+    let P : Callers → Type 0 = λ s. LeadTo MakesCall old exchanges s in
+    let Q : Callers → Type 0 = λ s. LeadTo MakesCall s exchanges (callers names passes) in
+    subst Q starts (subst P ends run)) runs

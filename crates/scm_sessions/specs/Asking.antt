@@ -8,11 +8,11 @@ use Rattle.scm_cells.specs.Numbers.{count_of_word}
 use Rattle.scm_cells.specs.Initials.{initial_of_word}
 use Rattle.scm_lowering.specs.Accesses.{access_of_words}
 use Rattle.scm_book.specs.declared.call.Decl.{Decl}
-use Rattle.scm_book.specs.Calls.{CallData, call_data, opens, claims, releases, reports, sets_mark, goes_back, raises, asks, asks_why, shows, lists, closes}
+use Rattle.scm_book.specs.Calls.{CallData, call_data, opens, claims, releases, reports, sets_mark, goes_back, raises, asks, asks_why, asks_cycle, shows, lists, closes}
 use Rattle.scm_sessions.specs.declared.asking.Asked.{Asked as AskedLine}
 use Rattle.scm_sessions.specs.declared.asking.Asked.TheVariants.{Nothing, Bad, Good}
 use Rattle.scm_sessions.specs.declared.commands.Command.{Command}
-use Rattle.scm_sessions.specs.declared.commands.Command.TheVariants.{OpenTrace, ClaimProcess, ReleaseProcess, Report, SetMark, GoBack, RaiseBudget, Ask, Why, ShowOps, ListTraces, CloseTrace}
+use Rattle.scm_sessions.specs.declared.commands.Command.TheVariants.{OpenTrace, ClaimProcess, ReleaseProcess, Report, SetMark, GoBack, RaiseBudget, Ask, Why, Cycle, ShowOps, ListTraces, CloseTrace}
 use Rattle.scm_sessions.specs.Lines.{Line, too_long, text}
 use Rattle.scm_sessions.specs.Words.{words_of, name_of_word}
 use Rattle.scm_sessions.specs.Commands.{command_of_word}
@@ -103,7 +103,7 @@ mark_of_words words = option_map sets_mark (named_alone words)
 abbrev pub close_of_words : List (List ℕ) → Option CallData
 close_of_words words = option_map closes (named_alone words)
 
--- ---- ask T, ask T m, why T, why T m
+-- ---- ask T, ask T m, why T, why T m, cycle T, cycle T m
 
 -- a trace's name, and perhaps a mark
 abbrev pub named_mark : List (List ℕ) → Option (List ℕ × Option ℕ)
@@ -117,6 +117,9 @@ ask_of_words words = option_map (λ named. asks named.0 named.1) (named_mark wor
 
 abbrev pub why_of_words : List (List ℕ) → Option CallData
 why_of_words words = option_map (λ named. asks_why named.0 named.1) (named_mark words)
+
+abbrev pub cycle_of_words : List (List ℕ) → Option CallData
+cycle_of_words words = option_map (λ named. asks_cycle named.0 named.1) (named_mark words)
 
 -- ---- list
 
@@ -137,6 +140,7 @@ call_of GoBack words = back_of_words words
 call_of RaiseBudget words = raise_of_words words
 call_of Ask words = ask_of_words words
 call_of Why words = why_of_words words
+call_of Cycle words = cycle_of_words words
 call_of ShowOps words = show_of_words words
 call_of ListTraces words = list_of_words words
 call_of CloseTrace words = close_of_words words

@@ -1,5 +1,5 @@
 -- The sessions of a run over a shared book: what the run's passes say that they made. This project's profile.
-use Rattle.std.specs.Prelude.{ℕ, ◌≡◌, ◌≢◌, ◌+◌, ⊤, List, [], ◌∷◌, ◌++◌, slice_get}
+use Rattle.std.specs.Prelude.{ℕ, ◌≡◌, ◌≢◌, ◌+◌, ⊤, List, [], ◌∷◌, ◌++◌, slice_get, Option}
 use Rattle.std.specs.Option.{option_map_or}
 use Rattle.scm_sequences.specs.declared.refusal.Refusal.TheVariants.{BadLine}
 use Rattle.scm_book.specs.Calls.{CallData, ReplyData, refused}
@@ -7,6 +7,9 @@ use Rattle.scm_shared.specs.Passes.{Known}
 use Rattle.scm_sessions.specs.Asking.{good}
 use Rattle.scm_sessions.specs.Script.{session_of}
 use Rattle.scm_sessions.specs.SharedRuns.{entry_in}
+use Rattle.scm_sessions.specs.declared.findings.Findings.{Findings}
+use Rattle.scm_sessions.specs.Exchanges.{LeadTo}
+use Rattle.scm_sessions.specs.Findings.{FindsWhole}
 
 pub record Callers : Type 0 where
   -- the entered names, in the order of their entry
@@ -31,3 +34,7 @@ made_by callers name = option_map_or (λ pass. pass.made) (slice_get callers.pas
 pub record MakesCall (old : Callers) (name : List ℕ) (call : CallData) (reply : ReplyData) (new : Callers) : Type 0 where
   pub reply_is : reply ≢ refused BadLine
   pub made : (other : List ℕ) → made_by new other ≡ made_by old other ++ entry_in other (good name call) reply
+
+-- the whole script was run, from no sessions to these names and passes, with these findings
+pub record RunsCallers (script left written after : Option (List ℕ)) (names : List (List ℕ)) (passes : List Known) (found : Findings) : Type 0 where
+  pub finds : FindsWhole script left written after (λ exchanges. LeadTo MakesCall (callers [] []) exchanges (callers names passes)) found

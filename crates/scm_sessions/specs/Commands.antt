@@ -2,7 +2,7 @@
 use Rattle.std.specs.Prelude.{ℕ, List, codes, Bool, ◌==◌, if◌then◌else◌, Option, None, Some}
 use Rattle.std.specs.Cmp.Lexicographic.{pointwise}
 use Rattle.scm_sessions.specs.declared.commands.Command.{Command}
-use Rattle.scm_sessions.specs.declared.commands.Command.TheVariants.{OpenTrace, ClaimProcess, ReleaseProcess, Report, SetMark, GoBack, RaiseBudget, Ask, Why, ShowOps, ListTraces, CloseTrace}
+use Rattle.scm_sessions.specs.declared.commands.Command.TheVariants.{OpenTrace, ClaimProcess, ReleaseProcess, Report, SetMark, GoBack, RaiseBudget, Ask, Why, Cycle, ShowOps, ListTraces, CloseTrace}
 
 -- whether a word is this text
 abbrev pub is_word : List ℕ → List ℕ → Bool
@@ -20,7 +20,8 @@ command_of_word word =
     else (if is_word word (codes "raise") then Some RaiseBudget
     else (if is_word word (codes "ask") then Some Ask
     else (if is_word word (codes "why") then Some Why
+    else (if is_word word (codes "cycle") then Some Cycle
     else (if is_word word (codes "show") then Some ShowOps
     else (if is_word word (codes "list") then Some ListTraces
     else (if is_word word (codes "close") then Some CloseTrace
-    else None)))))))))))
+    else None))))))))))))

@@ -6,10 +6,13 @@ pub mod Commands
 pub mod Asking
 pub mod Replies
 pub mod Exchanges
+pub mod Groups
+pub mod Findings
 pub mod Script
 pub mod Answering
 pub mod Callers
 pub mod SharedRuns
+pub mod Gathered
 pub mod JournalText
 pub use Rattle.scm_sequences.specs.Refusals
 pub use Rattle.scm_cells.specs.Names

@@ -4,8 +4,12 @@ use Rattle.scm_sequences.specs.declared.op.Op.{Op}
 use Rattle.scm_sequences.specs.declared.op.Op.TheVariants.{R, W, Rw}
 use Rattle.scm_sequences.specs.Refusals.{refusal_number, refusal_text}
 use Rattle.scm_frontier.specs.Situated.{Situated}
+use Rattle.scm_orders.specs.declared.edge.Place.{Place}
+use Rattle.scm_orders.specs.declared.edge.Edge.{Edge}
+use Rattle.scm_orders.specs.declared.edge.Reason.{Reason}
+use Rattle.scm_orders.specs.declared.edge.Reason.TheVariants.{Program, Source, Initial, Joined, Hidden, AfterSource, BeforeNext}
 use Rattle.scm_book.specs.declared.reply.Shown.{Shown}
-use Rattle.scm_book.specs.Calls.{ReplyData, reply_data, done, marked, consistent, inconsistent, undecided, because, ops, listed, refused}
+use Rattle.scm_book.specs.Calls.{ReplyData, reply_data, done, marked, consistent, inconsistent, undecided, because, cycle, unknown, ops, listed, refused}
 use Rattle.scm_sessions.specs.declared.replies.Answer.{Answer}
 
 -- a space and a word
@@ -43,6 +47,27 @@ content_text (Some value) = decimal value
 abbrev pub situation_text : Situated → List ℕ
 situation_text s = codes " " ++ joined (map decimal s.counts) ++ codes "/" ++ joined (map content_text s.contents)
 
+-- where an operation stands: its process and its place there, both from 0
+abbrev pub place_text : Place → List ℕ
+place_text place = decimal place.process ++ codes "." ++ decimal place.at
+
+-- the numbers of two earlier edges, from 0, each with a colon before it
+abbrev pub numbers_text : ℕ → ℕ → List ℕ
+numbers_text first second = codes ":" ++ decimal first ++ codes ":" ++ decimal second
+
+abbrev pub reason_text : Reason → List ℕ
+reason_text Program = codes "program"
+reason_text Source = codes "source"
+reason_text Initial = codes "initial"
+reason_text (Joined first second) = codes "joined" ++ numbers_text first second
+reason_text (Hidden first second) = codes "hidden" ++ numbers_text first second
+reason_text (AfterSource source before) = codes "after-source" ++ numbers_text source before
+reason_text (BeforeNext source before) = codes "before-next" ++ numbers_text source before
+
+-- an edge, with a space before it: which operation stands before which, and the reason
+abbrev pub edge_text : Edge → List ℕ
+edge_text edge = codes " " ++ place_text edge.from ++ codes "<" ++ place_text edge.to ++ codes ":" ++ reason_text edge.reason
+
 -- a fixed value, with a space before it: the name of its cell, '=' and the value
 abbrev pub fixed_text : List ℕ × ℕ → List ℕ
 fixed_text value = spaced_word value.0 ++ codes "=" ++ decimal value.1
@@ -61,6 +86,8 @@ reply_text inconsistent = codes "inconsistent"
 reply_text undecided = codes "undecided"
 reply_text (because situations) =
     codes "because " ++ decimal (length situations) ++ flat_map situation_text situations
+reply_text (cycle edges) = codes "cycle " ++ decimal (length edges) ++ flat_map edge_text edges
+reply_text unknown = codes "unknown"
 reply_text (ops operations) = codes "ops " ++ decimal (length operations) ++ flat_map shown_text operations
 reply_text (listed names) = codes "traces " ++ decimal (length names) ++ flat_map spaced_word names
 reply_text (refused refusal) =

@@ -2,8 +2,7 @@
 ghost use Rattle.std.specs.Prelude.{option_copied};
 ghost use Rattle.scm_sessions.specs.Lines.{line_given};
 ghost use Rattle.scm_sessions.specs.Asking.{asked_by, asked_data};
-ghost use Rattle.scm_sessions.specs.Replies.{answer_text};
-ghost use Rattle.scm_sessions.specs.Answering.{AnswersLine};
+ghost use Rattle.scm_sessions.specs.Answering.{AnswersWith};
 
 use crate::asking::{Asked, read_asked};
 use crate::replies::Answer;
@@ -28,7 +27,7 @@ pub(crate) trait MakeCalls {
 
 /// The answer to a line that asks this, where it has one.
 fn answer_asked<S: MakeCalls>(sessions: &mut S, asked: Asked) -> Option<Answer>
-    ensures { AnswersLine S.calls sessions.old (asked_data asked) (answer_text result) sessions.new }
+    ensures { AnswersWith S.calls sessions.old (asked_data asked) result sessions.new }
 {
     match asked {
         Asked::Nothing => None,
@@ -49,7 +48,7 @@ pub(crate) fn answer_line<S: MakeCalls>(
     sessions: &mut S,
     line: Option<&[u8]>,
 ) -> Option<Answer>
-    ensures { AnswersLine S.calls sessions.old (asked_by (line_given (option_copied line.entry))) (answer_text result) sessions.new }
+    ensures { AnswersWith S.calls sessions.old (asked_by (line_given (option_copied line.entry))) result sessions.new }
 {
     match read_asked(alloc, line) {
         Ok(asked) => answer_asked(sessions, asked),

@@ -4,7 +4,7 @@ ghost use Rattle.scm_sequences.specs.declared.refusal.Refusal.TheVariants.{BadLi
 ghost use Rattle.scm_book.specs.Calls.{CallData, call_data, opens};
 ghost use Rattle.scm_sessions.specs.Lines.{line_of_text};
 ghost use Rattle.scm_sessions.specs.Words.{words_of};
-ghost use Rattle.scm_sessions.specs.Asking.{good, asked_by, declarations_of_words, open_of_words, report_of_words, claim_of_words, release_of_words, back_of_words, raise_of_words, show_of_words, mark_of_words, close_of_words, ask_of_words, why_of_words, list_of_words, call_of, call_of_words};
+ghost use Rattle.scm_sessions.specs.Asking.{good, asked_by, declarations_of_words, open_of_words, report_of_words, claim_of_words, release_of_words, back_of_words, raise_of_words, show_of_words, mark_of_words, close_of_words, ask_of_words, why_of_words, cycle_of_words, list_of_words, call_of, call_of_words};
 
 use crate::arguments::{
     read_access_words, read_name_alone, read_name_and_count, read_name_and_mark,
@@ -138,6 +138,14 @@ fn read_why(line: &[u8]) -> Option<Call>
     Some(Call::Why { name, mark })
 }
 
+/// `T` or `T m`
+fn read_cycle(line: &[u8]) -> Option<Call>
+    ensures { option_map call_data result ≡ cycle_of_words (words_of line.now) }
+{
+    let (name, mark) = read_name_and_mark(line)?;
+    Some(Call::Cycle { name, mark })
+}
+
 /// No further word.
 fn read_list(line: &[u8]) -> Option<Call>
     ensures { option_map call_data result ≡ list_of_words (words_of line.now) }
@@ -163,6 +171,7 @@ fn read_arguments(alloc: Global, command: Command, line: &[u8]) -> Result<Option
         Command::RaiseBudget => read_raise(line),
         Command::Ask => read_ask(line),
         Command::Why => read_why(line),
+        Command::Cycle => read_cycle(line),
         Command::ShowOps => read_show(line),
         Command::ListTraces => read_list(line),
         Command::CloseTrace => read_close(line),
@@ -201,6 +210,3 @@ pub fn read_line(alloc: Global, line: &[u8]) -> Result<(Name, Call), Refusal>
         Asked::Nothing | Asked::Bad(_) => Err(Refusal::BadLine),
     }
 }
-
-#[cfg(test)]
-mod tests;

@@ -14,6 +14,7 @@ pub(crate) enum Command {
     RaiseBudget,
     Ask,
     Why,
+    Cycle,
     ShowOps,
     ListTraces,
     CloseTrace,
@@ -48,6 +49,8 @@ pub(crate) fn read_command(word: &[u8]) -> Option<Command>
         Some(Command::Ask)
     } else if is_word(word, "why") {
         Some(Command::Why)
+    } else if is_word(word, "cycle") {
+        Some(Command::Cycle)
     } else if is_word(word, "show") {
         Some(Command::ShowOps)
     } else if is_word(word, "list") {

@@ -85,6 +85,3 @@ pub fn write_journal<W: Write>(
     writer.flush()?;
     Ok(())
 }
-
-#[cfg(test)]
-mod tests;

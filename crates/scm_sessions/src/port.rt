@@ -138,6 +138,3 @@ impl<W: Write> Port<W> {
         }
     }
 }
-
-#[cfg(test)]
-mod tests;

@@ -165,6 +165,3 @@ impl LineReader {
         }
     }
 }
-
-#[cfg(test)]
-mod tests;

@@ -74,6 +74,8 @@ impl<W: Write> Port<W> {
             Reply::Inconsistent => self.put(b"inconsistent"),
             Reply::Undecided => self.put(b"undecided"),
             Reply::Because(situations) => self.put_refutation(situations),
+            Reply::Cycle(edges) => self.put_cycle(edges),
+            Reply::Unknown => self.put(b"unknown"),
             Reply::Ops(operations) => self.put_operations(operations),
             Reply::Traces(names) => self.put_traces(names),
             Reply::Refused(refusal) => self.put_refused(*refusal),
@@ -133,6 +135,3 @@ pub fn write_reply<W: Write>(
     writer.flush()?;
     Ok(())
 }
-
-#[cfg(test)]
-mod tests;

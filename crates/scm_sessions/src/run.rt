@@ -7,7 +7,8 @@ ghost use Rattle.scm_sessions.specs.Ports.{inner_of, has_failed, Writes};
 ghost use Rattle.scm_sessions.specs.Reading.{unread_of};
 ghost use Rattle.scm_book.specs.Journal.{IsLegalBook};
 ghost use Rattle.scm_sessions.specs.JournalText.{AreNamed};
-ghost use Rattle.scm_sessions.specs.Exchanges.{LeadTo, RunsWhole, RunsWholeLines, RunsPart};
+ghost use Rattle.scm_sessions.specs.Exchanges.{LeadTo, RunsWholeLines, RunsPart};
+ghost use Rattle.scm_sessions.specs.Findings.{findings_of, replies_of, with_answer, FindsWhole};
 ghost use Rattle.scm_sessions.specs.Answering.{AnswersLine};
 ghost use Rattle.scm_sessions.specs.Script.{script_state, IsScriptRun, IsScriptBeginning};
 
@@ -15,28 +16,33 @@ use crate::answers::{MakeCalls, answer_line};
 use crate::reading::{Cut, LineReader};
 use crate::replies::send_reply;
 use crate::sessions::Sessions;
-use crate::{Port, RunFault};
+use crate::{Findings, Port, RunFault};
 use scm_book::Book;
 use scm_cells::Name;
 use scm_sequences::MOST_SESSIONS;
 use std::alloc::Global;
 use std::io::{Read, Write};
 
-/// Answers a line, and hands the reply to the writer where it has one; `None` stands for a line that is too long.
+/// Answers a line, and hands the reply to the writer where it has one; `None` stands for a line that is too long. The answer
+/// goes into the findings.
 fn send_answer<S: MakeCalls, W: Write>(
     alloc: Global,
     sessions: &mut S,
     line: Option<&[u8]>,
     writer: &mut Port<W>,
+    findings: &mut Findings,
 ) -> Result<(), RunFault>
     requires { has_failed writer.old ≡ false }
     ensures answered { (text : List ℕ)
-        × AnswersLine S.calls sessions.old (asked_by (line_given (option_copied line.entry))) text sessions.new
-        × Writes (W.contents (inner_of writer.old)) (W.contents (inner_of writer.new)) result text }
+        × (answers : AnswersLine S.calls sessions.old (asked_by (line_given (option_copied line.entry))) text sessions.new)
+        × Writes (W.contents (inner_of writer.old)) (W.contents (inner_of writer.new)) result text
+        × (findings.new ≡ with_answer findings.old (replies_of answers.exchanges)) }
     ensures fault { IfErr result (λ fault. fault ≡ RunFault.WriteFailed) }
     ensures failed { has_failed writer.new ≡ is_err result }
 {
-    match answer_line(alloc, sessions, line) {
+    let answer = answer_line(alloc, sessions, line);
+    findings.add_answer(answer.as_ref());
+    match answer {
         Some(answer) => send_reply(writer, answer.name.as_ref(), &answer.reply),
         None => Ok(()),
     }
@@ -56,20 +62,22 @@ fn flush_before_read<W: Write>(lines: &LineReader, writer: &mut Port<W>) -> Resu
     Ok(())
 }
 
-/// Answers each line of the script that is left, up to a fault.
+/// Answers each line of the script that is left, up to a fault, and gathers what it finds.
 pub(crate) fn run_lines<S: MakeCalls, R: Read, W: Write>(
     alloc: Global,
     sessions: &mut S,
     lines: &mut LineReader,
     reader: &mut Port<R>,
     writer: &mut Port<W>,
+    findings: &mut Findings,
 ) -> Result<(), RunFault>
     requires fresh { unread_of lines.old ≡ [] }
+    requires new { findings.old ≡ findings_of [] [] }
     requires reads { has_failed reader.old ≡ false }
     requires writes { has_failed writer.old ≡ false }
-    ensures ok { OnOk result (RunsWhole (R.remaining (inner_of reader.old)) (R.remaining (inner_of reader.new))
+    ensures ok { OnOk result (FindsWhole (R.remaining (inner_of reader.old)) (R.remaining (inner_of reader.new))
         (W.contents (inner_of writer.old)) (W.contents (inner_of writer.new))
-        (λ exchanges. LeadTo S.calls sessions.old exchanges sessions.new)) }
+        (λ exchanges. LeadTo S.calls sessions.old exchanges sessions.new) findings.new) }
     ensures read_failed { IsErrOf result RunFault.ReadFailed →
         RunsWholeLines (R.remaining (inner_of reader.old)) (R.remaining (inner_of reader.new))
         (W.contents (inner_of writer.old)) (W.contents (inner_of writer.new))
@@ -85,9 +93,9 @@ pub(crate) fn run_lines<S: MakeCalls, R: Read, W: Write>(
     'each: loop {
         flush_before_read(lines, writer)?;
         match lines.next_line(reader)? {
-            Cut::Whole => send_answer(alloc, sessions, lines.line(), writer)?,
+            Cut::Whole => send_answer(alloc, sessions, lines.line(), writer, findings)?,
             Cut::Last => {
-                send_answer(alloc, sessions, lines.line(), writer)?;
+                send_answer(alloc, sessions, lines.line(), writer, findings)?;
                 writer.flush()?;
                 return Ok(());
             }
@@ -97,7 +105,7 @@ pub(crate) fn run_lines<S: MakeCalls, R: Read, W: Write>(
 }
 
 /// Runs a script: answers each of its lines over this book, and gives back the book and the names of the sessions, a
-/// name's place being the number of its session.
+/// name's place being the number of its session, with what was found in `findings`.
 ///
 /// Each reply is written and flushed before more bytes are asked for, as far as whole lines were read, and no sooner: the
 /// replies to the lines that one read brought go out together. The run ends
@@ -108,12 +116,13 @@ pub fn run_script<R: Read, W: Write>(
     book: Book,
     reader: &mut Port<R>,
     writer: &mut Port<W>,
+    findings: &mut Findings,
 ) -> Result<(Book, Vec<Name>), RunFault>
     requires reads { has_failed reader.old ≡ false }
     requires writes { has_failed writer.old ≡ false }
-    ensures ok { IfOk result (λ ended. RunsWhole (R.remaining (inner_of reader.old)) (R.remaining (inner_of reader.new))
+    ensures ok { IfOk result (λ ended. FindsWhole (R.remaining (inner_of reader.old)) (R.remaining (inner_of reader.new))
         (W.contents (inner_of writer.old)) (W.contents (inner_of writer.new))
-        (λ exchanges. IsScriptRun (script_state [] book) exchanges (script_state ended.1.items ended.0))) }
+        (λ exchanges. IsScriptRun (script_state [] book) exchanges (script_state ended.1.items ended.0)) findings.new) }
     ensures named { IfOk result (λ ended. book.journal ≡ [] → AreNamed ended.1.items ended.0.journal) }
     ensures legal { IfOk result (λ ended. IsLegalBook ended.0) }
     ensures read_failed { IsErrOf result RunFault.ReadFailed →
@@ -132,9 +141,8 @@ pub fn run_script<R: Read, W: Write>(
         return Err(RunFault::NoMemory);
     };
     let mut sessions = Sessions::new(alloc, book);
-    run_lines(alloc, &mut sessions, &mut lines, reader, writer)?;
+    let mut found = Findings::new();
+    run_lines(alloc, &mut sessions, &mut lines, reader, writer, &mut found)?;
+    *findings = found;
     Ok(sessions.into_parts(names))
 }
-
-#[cfg(test)]
-mod tests;

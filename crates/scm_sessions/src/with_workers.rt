@@ -5,14 +5,15 @@ ghost use Rattle.scm_book.specs.Journal.{IsLegalBook};
 ghost use Rattle.scm_sessions.specs.Ports.{inner_of, has_failed};
 ghost use Rattle.scm_sessions.specs.Reading.{unread_of};
 ghost use Rattle.scm_sessions.specs.JournalText.{AreNamed};
-ghost use Rattle.scm_sessions.specs.Exchanges.{LeadTo, RunsWhole, RunsWholeLines, RunsPart};
-ghost use Rattle.scm_sessions.specs.Callers.{callers, AreNumberedFrom, MakesCall};
+ghost use Rattle.scm_sessions.specs.Exchanges.{RunsWholeLines, RunsPart};
+ghost use Rattle.scm_sessions.specs.Findings.{FindsWhole};
+ghost use Rattle.scm_sessions.specs.Callers.{AreNumberedFrom, RunsCallers};
 ghost use Rattle.scm_sessions.specs.SharedRuns.{AllFit, IsSharedRun};
 
 use crate::reading::LineReader;
 use crate::run::run_lines;
 use crate::shared_sessions::SharedSessions;
-use crate::{Ended, Port, RunFault};
+use crate::{Ended, Findings, Port, RunFault};
 use scm_cells::Name;
 use scm_expand::{Gate, run_workers};
 use scm_results::Tally;
@@ -24,7 +25,7 @@ use std::sync::Wait;
 use std::thread::{Threads, join_mut};
 
 /// Runs the script over this book, and then tells the workers to end. Gives the passes of the sessions, whose names go into
-/// `names`, in the order of their entry.
+/// `names`, in the order of their entry, and what the run found.
 fn run_and_stop<'a, B: BookNaming, T: Wait, R: Read, W: Write>(
     rt: &'a T,
     alloc: Global,
@@ -33,17 +34,16 @@ fn run_and_stop<'a, B: BookNaming, T: Wait, R: Read, W: Write>(
     lines: &mut LineReader,
     reader: &mut Port<R>,
     writer: &mut Port<W>,
-) -> Result<Vec<Pass<B>>, RunFault>
+) -> Result<(Vec<Pass<B>>, Findings), RunFault>
     requires empty { names.old.items ≡ [] }
     requires fits { MOST_SESSIONS ≤ vec_capacity names.old }
     requires fresh { unread_of lines.old ≡ [] }
     requires reads { has_failed reader.old ≡ false }
     requires writes { has_failed writer.old ≡ false }
-    ensures ok { IfOk result (λ passes. RunsWhole (R.remaining (inner_of reader.old)) (R.remaining (inner_of reader.new))
-        (W.contents (inner_of writer.old)) (W.contents (inner_of writer.new))
-        (λ exchanges. LeadTo MakesCall (callers [] []) exchanges (callers names.new.items passes.items))) }
-    ensures each { IfOk result (λ passes. length passes.items ≡ length names.new.items) }
-    ensures numbered { IfOk result (λ passes. AreNumberedFrom 0 passes.items) }
+    ensures ok { IfOk result (λ ended. RunsCallers (R.remaining (inner_of reader.old)) (R.remaining (inner_of reader.new))
+        (W.contents (inner_of writer.old)) (W.contents (inner_of writer.new)) names.new.items ended.0.items ended.1) }
+    ensures each { IfOk result (λ ended. length ended.0.items ≡ length names.new.items) }
+    ensures numbered { IfOk result (λ ended. AreNumberedFrom 0 ended.0.items) }
     ensures read_failed { IsErrOf result RunFault.ReadFailed →
         RunsWholeLines (R.remaining (inner_of reader.old)) (R.remaining (inner_of reader.new))
         (W.contents (inner_of writer.old)) (W.contents (inner_of writer.new)) AllFit }
@@ -55,14 +55,15 @@ fn run_and_stop<'a, B: BookNaming, T: Wait, R: Read, W: Write>(
     ensures memory { IfErr result (λ fault. fault ≢ RunFault.NoMemory) }
 {
     let mut sessions = SharedSessions::new(alloc, rt, book);
-    let ran = run_lines(alloc, &mut sessions, lines, reader, writer);
+    let mut findings = Findings::new();
+    let ran = run_lines(alloc, &mut sessions, lines, reader, writer, &mut findings);
     book.stop_workers();
     ran?;
-    Ok(sessions.into_parts(names))
+    Ok((sessions.into_parts(names), findings))
 }
 
 /// Runs the script over this book beside workers, which end with it. Gives the tallies of workers and collector, and the passes
-/// of the sessions, whose names go into `names`, in the order of their entry.
+/// of the sessions, whose names go into `names`, in the order of their entry, with what the run found.
 fn run_beside_workers<
     B: BookNaming + Send + Sync,
     R: Read,
@@ -79,17 +80,16 @@ fn run_beside_workers<
     writer: &mut Port<W>,
     gate: &G,
     workers: usize,
-) -> (Vec<Tally<B>>, Result<Vec<Pass<B>>, RunFault>)
+) -> (Vec<Tally<B>>, Result<(Vec<Pass<B>>, Findings), RunFault>)
     requires empty { names.old.items ≡ [] }
     requires fits { MOST_SESSIONS ≤ vec_capacity names.old }
     requires fresh { unread_of lines.old ≡ [] }
     requires reads { has_failed reader.old ≡ false }
     requires writes { has_failed writer.old ≡ false }
-    ensures ok { IfOk result.1 (λ passes. RunsWhole (R.remaining (inner_of reader.old)) (R.remaining (inner_of reader.new))
-        (W.contents (inner_of writer.old)) (W.contents (inner_of writer.new))
-        (λ exchanges. LeadTo MakesCall (callers [] []) exchanges (callers names.new.items passes.items))) }
-    ensures each { IfOk result.1 (λ passes. length passes.items ≡ length names.new.items) }
-    ensures numbered { IfOk result.1 (λ passes. AreNumberedFrom 0 passes.items) }
+    ensures ok { IfOk result.1 (λ ended. RunsCallers (R.remaining (inner_of reader.old)) (R.remaining (inner_of reader.new))
+        (W.contents (inner_of writer.old)) (W.contents (inner_of writer.new)) names.new.items ended.0.items ended.1) }
+    ensures each { IfOk result.1 (λ ended. length ended.0.items ≡ length names.new.items) }
+    ensures numbered { IfOk result.1 (λ ended. AreNumberedFrom 0 ended.0.items) }
     ensures read_failed { IsErrOf result.1 RunFault.ReadFailed →
         RunsWholeLines (R.remaining (inner_of reader.old)) (R.remaining (inner_of reader.new))
         (W.contents (inner_of writer.old)) (W.contents (inner_of writer.new)) AllFit }
@@ -108,7 +108,7 @@ fn run_beside_workers<
 
 /// Runs a script over a new book, in its order on the caller's thread, while `workers` threads and a collector look for
 /// situations that questions will want. Ends with the book's audit and the names of the sessions, a name's place being the
-/// number of its session.
+/// number of its session, and with what it found in `findings`.
 ///
 /// Each reply is written and flushed before more bytes are asked for, as far as whole lines were read. The run ends
 /// early where the reader or the writer fails. It fails with `NoMemory` before the first read alone; a line for which
@@ -126,6 +126,7 @@ pub fn run_with_workers<
     token: BookToken,
     reader: &mut Port<R>,
     writer: &mut Port<W>,
+    findings: &mut Findings,
     gate: &G,
     workers: usize,
 ) -> Result<Ended, RunFault>
@@ -134,8 +135,8 @@ pub fn run_with_workers<
     requires table { token.table.shared.table_id ≡ B.table }
     requires made { (token.made.name ≡ B.made) × (token.made.parts ≡ B.seats) }
     requires totals { (token.totals.taken.name ≡ B.taken) × (token.totals.delivered.name ≡ B.delivered) × (token.totals.taken.parts ≡ B.parts) }
-    ensures ok { IfOk result (λ ended. RunsWhole (R.remaining (inner_of reader.old)) (R.remaining (inner_of reader.new))
-        (W.contents (inner_of writer.old)) (W.contents (inner_of writer.new)) (IsSharedRun ended)) }
+    ensures ok { IfOk result (λ ended. FindsWhole (R.remaining (inner_of reader.old)) (R.remaining (inner_of reader.new))
+        (W.contents (inner_of writer.old)) (W.contents (inner_of writer.new)) (IsSharedRun ended) findings.new) }
     ensures named { IfOk result (λ ended. IsTrue ended.audit.agreed → AreNamed ended.names.items ended.audit.book.journal) }
     ensures legal { IfOk result (λ ended. IsLegalBook ended.audit.book) }
     ensures read_failed { IsErrOf result RunFault.ReadFailed →
@@ -157,8 +158,10 @@ pub fn run_with_workers<
     let (tallies, ran) = run_beside_workers::<B, R, W, G, T>(
         rt, alloc, &book, &mut names, &mut lines, reader, writer, gate, workers,
     );
+    let (passes, found) = ran?;
+    *findings = found;
     Ok(Ended {
-        audit: book.audit(ran?, tallies),
+        audit: book.audit(passes, tallies),
         names,
     })
 }

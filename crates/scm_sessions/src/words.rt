@@ -45,6 +45,3 @@ pub fn line_name(line: &[u8]) -> Option<Name>
     let (word, _) = split_word(line)?;
     Name::read(word)
 }
-
-#[cfg(test)]
-mod tests;

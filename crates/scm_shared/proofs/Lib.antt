@@ -7,3 +7,4 @@ pub mod Auditing
 pub mod Taking
 pub mod Moves
 mod Following
+mod Edges

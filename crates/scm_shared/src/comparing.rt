@@ -9,6 +9,7 @@ use scm_book::{Call, Decl, Entry, Reply, Shown};
 use scm_cells::{Name, Width};
 use scm_frontier::Situation;
 use scm_lowering::Access;
+use scm_orders::Edge;
 
 /// Whether they are the same declarations, in the same order.
 fn same_cells(one: &[Decl], other: &[Decl]) -> bool
@@ -40,6 +41,13 @@ fn same_values(one: &[(Name, u64)], other: &[(Name, u64)]) -> bool
 
 /// Whether they are the same situations, in the same order.
 fn same_situations(one: &[Situation], other: &[Situation]) -> bool
+    ensures { IsTrue result ↔ (one.now ≡ other.now) }
+{
+    one == other
+}
+
+/// Whether they are the same edges, in the same order.
+fn same_edges(one: &[Edge], other: &[Edge]) -> bool
     ensures { IsTrue result ↔ (one.now ≡ other.now) }
 {
     one == other
@@ -128,6 +136,9 @@ fn same_call(one: &Call, other: &Call) -> bool
         Call::Why { name, mark } => {
             matches!(other, Call::Why { name: n, mark: m } if name == n && same_mark(mark, m))
         }
+        Call::Cycle { name, mark } => {
+            matches!(other, Call::Cycle { name: n, mark: m } if name == n && same_mark(mark, m))
+        }
         Call::ShowOps { name, process } => {
             matches!(other, Call::ShowOps { name: n, process: p } if name == n && process == p)
         }
@@ -137,7 +148,7 @@ fn same_call(one: &Call, other: &Call) -> bool
 }
 
 /// Whether the replies are equal.
-pub(crate) fn same_reply(one: &Reply, other: &Reply) -> bool
+pub fn same_reply(one: &Reply, other: &Reply) -> bool
     ensures { IsTrue result ↔ (reply_data one.now ≡ reply_data other.now) }
 {
     match one {
@@ -151,6 +162,8 @@ pub(crate) fn same_reply(one: &Reply, other: &Reply) -> bool
         Reply::Because(situations) => {
             matches!(other, Reply::Because(s) if same_situations(situations, s))
         }
+        Reply::Cycle(edges) => matches!(other, Reply::Cycle(e) if same_edges(edges, e)),
+        Reply::Unknown => matches!(other, Reply::Unknown),
         Reply::Ops(operations) => matches!(other, Reply::Ops(o) if same_operations(operations, o)),
         Reply::Traces(names) => matches!(other, Reply::Traces(n) if same_names(names, n)),
         Reply::Refused(refusal) => matches!(other, Reply::Refused(r) if refusal == r),

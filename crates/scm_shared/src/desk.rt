@@ -144,6 +144,7 @@ impl<B: BookNaming> Desk<B> {
     pub(crate) fn deliver(&mut self, outcomes: Vec<Outcome>, tally: &mut Tally<B>) -> Results
         ensures book { IsDelivery self.old.book outcomes.items result self.new.book }
         ensures taken { tally.new.taken ≡ tally.old.taken }
+        ensures delivered { tally.new.delivered ≤ tally.old.delivered + vec_len outcomes }
     {
         let _counted = self.totals.results();
         let delivered = self.book.deliver(outcomes);

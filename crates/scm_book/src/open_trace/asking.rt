@@ -17,7 +17,7 @@ use scm_sequences::{Lengths, Refusal};
 use std::alloc::Global;
 
 /// The lengths that a question is about: the present ones, or those of a mark. Refused `NoSuchMark`.
-fn lengths_at<'a>(
+pub(super) fn lengths_at<'a>(
     marks: &'a Marks,
     present: &'a Lengths,
     mark: Option<u64>,

@@ -1,12 +1,12 @@
 use Rattle.std.proofs.Common.{rules}
 use Rattle.std.proofs.KnownBytes.{Appends-kept}
 use Rattle.scm_sessions.proofs.Sent.{AppendsPart-all}
-use Rattle.scm_sessions.proofs.Running.{HasRun-start, HasRun-kept, HasRun-more, RunsWhole-end, RunsWhole-last, RunsWholeLines-part, RunsPart-held, RunsPart-whole, RunsPart-last}
+use Rattle.scm_sessions.proofs.Running.{HasRun-start, HasRun-kept, HasRun-more, FindsWhole-end, FindsWhole-last, RunsWholeLines-part, RunsPart-held, RunsPart-whole, RunsPart-last}
 use Rattle.scm_sessions.proofs.run.run_lines.Goals as goal
 
 pub each-init : goal.each-init
 each-init g c = record {
-  run = HasRun-start _ _ _ _ _ c.requires.fresh;
+  run = HasRun-start _ _ _ _ _ _ c.requires.fresh c.requires.new;
   reads = search rules;
   writes = search rules;
 }
@@ -26,7 +26,7 @@ each-preserved g c = record {
       let run = HasRun-kept c.each.invariant.run _ c.in_ok-flush_before_read.ensures.bytes in
       let takes = rw c.in-Whole.is at c.in_ok-next_line.ensures.ok in
       let answered = rw c.line.ensures at c.in_ok-send_answer-in-Whole.ensures.answered in
-      HasRun-more _ _ _ _ _ run takes answered.1 answered.2;
+      HasRun-more _ _ _ _ _ _ run takes answered.1 answered.2 answered.3;
   reads = search rules;
   writes = search rules;
 }
@@ -57,9 +57,9 @@ returns-in-Last-clause-ok g c =
     let run = HasRun-kept c.each.invariant.run _ c.in_ok-flush_before_read.ensures.bytes in
     let takes = rw c.in-Last.is at c.in_ok-next_line.ensures.ok in
     let answered = rw c.line-in-Last.ensures at c.in_ok-send_answer-in-Last.ensures.answered in
-    RunsWhole-last _ _ _ _ _ _ run takes answered.1 (Appends-kept _ _ _ _ answered.2 c.in_ok-flush-in-Last.ensures.bytes)
+    FindsWhole-last _ _ _ _ _ _ _ run takes answered.1 (Appends-kept _ _ _ _ answered.2 c.in_ok-flush-in-Last.ensures.bytes) answered.3
 
 pub returns-in-End-clause-ok : goal.returns-in-End-clause-ok
 returns-in-End-clause-ok g c =
     let run = HasRun-kept c.each.invariant.run _ c.in_ok-flush_before_read.ensures.bytes in
-    let takes = rw c.in-End.is at c.in_ok-next_line.ensures.ok in RunsWhole-end _ _ run takes
+    let takes = rw c.in-End.is at c.in_ok-next_line.ensures.ok in FindsWhole-end _ _ run takes

@@ -1,6 +1,11 @@
 use Rattle.std.proofs.lemmas.Result.{err_from_is_err_and}
-use Rattle.scm_sessions.proofs.Sharing.{RunsWholeLines-fit, RunsPart-fit}
+use Rattle.scm_sessions.proofs.Sharing.{FindsWhole-callers, RunsWholeLines-fit, RunsPart-fit}
 use Rattle.scm_sessions.proofs.with_workers.run_and_stop.Goals as goal
+
+pub returns-clause-ok : goal.returns-clause-ok
+returns-clause-ok g c =
+    let ran = rw c.in_ok-ran.was at c.run_lines-ran.ensures.ok in
+    record { finds = FindsWhole-callers ran c.new-sessions.ensures c.into_parts.ensures.names c.into_parts.ensures.passes }
 
 pub returns-in_err-ran-clause-read_failed : goal.returns-in_err-ran-clause-read_failed
 returns-in_err-ran-clause-read_failed g c =

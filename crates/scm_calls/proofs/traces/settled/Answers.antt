@@ -1,0 +1,17 @@
+use Rattle.std.proofs.Common.{refl, ◌≡◌, length, sym, ap, ◌∙◌, subst, rules}
+use Rattle.std.proofs.lemmas.List.{length-map}
+use Rattle.scm_sequences.specs.Ops.{NamesCellsBelow}
+use Rattle.scm_sequences.specs.SequenceLaws.{length-cut_lists}
+use Rattle.scm_sequences.specs.Traces.{trace_of, cut_to}
+use Rattle.scm_cells.specs.CellLists.{Declared}
+use Rattle.scm_calls.proofs.traces.settled.Goals as goal
+
+pub settle-requires-clause-cells : goal.settle-requires-clause-cells
+settle-requires-clause-cells g c =
+    let as_many : length c.in_ok-reach.reach.initials ≡ length c.in_ok-cells.cells = ap length c.in_ok-reach.ensures.initials ∙ length-map c.in_ok-cells.cells (λ (cell : Declared). cell.initial) in
+    let below : NamesCellsBelow c.len.result c.args.sequences.now = search rules in
+    subst (λ n. NamesCellsBelow n c.args.sequences.now) (c.len.ensures.len ∙ sym as_many) below
+
+pub settle-requires-clause-kept : goal.settle-requires-clause-kept
+settle-requires-clause-kept g c =
+    c.in_ok-reach.ensures.kept (trace_of c.in_ok-reach.reach.initials c.args.sequences.now) c.in_ok-reach.ensures.initials refl

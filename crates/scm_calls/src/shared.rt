@@ -1,0 +1,204 @@
+//! What no clause says: that calls succeed, and that `front` and `meet` show what other passes did.
+ghost use Rattle.std.specs.Prelude.{◌≡◌};
+
+use scm_book::{Call, Reply};
+use scm_sequences::{MOST_ENTRIES, MOST_SESSIONS, Refusal};
+use scm_shared::{Audit, BookNaming, BookToken, Pass, SharedBook};
+use std::alloc::Global;
+use std::marker::Brand;
+use std::process::Abort;
+use std::sync::Wait;
+use std::test::Fail;
+
+/// A new pass.
+pub(crate) fn entered<B: BookNaming, R: Wait + Abort>(rt: &R, shared: &SharedBook<B>) -> Pass<B> {
+    match shared.enter(rt) {
+        Ok(pass) => pass,
+        Err(_) => panic!(rt; "no pass"),
+    }
+}
+
+/// A call that needs no trace becomes an entry.
+fn list<B: BookNaming, R: Wait + Abort>(rt: &R, shared: &SharedBook<B>, pass: &mut Pass<B>) {
+    assert!(rt; matches!(shared.call(rt, pass, Call::ListTraces), Reply::Traces(_)));
+}
+
+/// Two fronts of a pass that calls nothing itself: after two calls of another one, and after one more.
+fn fronts<B: BookNaming, R: Wait + Abort>(rt: &R, alloc: Global, token: BookToken) -> (u64, u64)
+    requires table { token.table.shared.table_id ≡ B.table }
+    requires made { (token.made.name ≡ B.made) × (token.made.parts ≡ B.seats) }
+    requires totals { (token.totals.taken.name ≡ B.taken) × (token.totals.delivered.name ≡ B.delivered) × (token.totals.taken.parts ≡ B.parts) }
+{
+    let shared = SharedBook::<B>::new(alloc, token);
+    let mut one = entered(rt, &shared);
+    list(rt, &shared, &mut one);
+    list(rt, &shared, &mut one);
+    let mut other = entered(rt, &shared);
+    let first = shared.front(&mut other);
+    list(rt, &shared, &mut one);
+    (first, shared.front(&mut other))
+}
+
+#[test]
+fn front_of_other(rt: HostRuntime) -> Result<(), Fail> {
+    let (first, second) = fronts::<Brand, _>(&rt, rt.alloc(), BookToken::new(rt.alloc())?);
+    assert!(rt; first == 2 && second == 3);
+    Ok(())
+}
+
+/// What two passes find when they meet, before and after a third one calls; what both have seen then; and the audit of all
+/// three.
+fn meetings<B: BookNaming, R: Wait + Abort>(
+    rt: &R,
+    alloc: Global,
+    token: BookToken,
+) -> ([u64; 4], Audit)
+    requires table { token.table.shared.table_id ≡ B.table }
+    requires made { (token.made.name ≡ B.made) × (token.made.parts ≡ B.seats) }
+    requires totals { (token.totals.taken.name ≡ B.taken) × (token.totals.delivered.name ≡ B.delivered) × (token.totals.taken.parts ≡ B.parts) }
+{
+    let shared = SharedBook::<B>::new(alloc, token);
+    let mut zero = entered(rt, &shared);
+    let mut one = entered(rt, &shared);
+    let mut two = entered(rt, &shared);
+    list(rt, &shared, &mut zero);
+    list(rt, &shared, &mut zero);
+    list(rt, &shared, &mut one);
+    list(rt, &shared, &mut two);
+    let first = shared.meet(&mut zero, &mut one);
+    list(rt, &shared, &mut two);
+    let second = shared.meet(&mut zero, &mut one);
+    let found = [first, second, zero.seen(), one.seen()];
+    let passes = vec![in alloc; zero, one, two].expect(rt, "memory");
+    (found, shared.audit(passes, Vec::new(alloc)))
+}
+
+/// Whether all is accounted for, with no workers and so many passes.
+fn is_whole(audit: &Audit, passes: u16) -> bool {
+    audit.agreed && audit.totals_agreed && audit.entered == passes && audit.tallies == 0
+}
+
+#[test]
+fn passes_meet(rt: HostRuntime) -> Result<(), Fail> {
+    let (found, audit) = meetings::<Brand, _>(&rt, rt.alloc(), BookToken::new(rt.alloc())?);
+    assert!(rt; found == [4, 5, 5, 5]);
+    assert!(rt; is_whole(&audit, 3));
+    Ok(())
+}
+
+/// Whether the audit agrees where a pass is held back that made a call.
+fn held_back<B: BookNaming, R: Wait + Abort>(rt: &R, alloc: Global, token: BookToken) -> bool
+    requires table { token.table.shared.table_id ≡ B.table }
+    requires made { (token.made.name ≡ B.made) × (token.made.parts ≡ B.seats) }
+    requires totals { (token.totals.taken.name ≡ B.taken) × (token.totals.delivered.name ≡ B.delivered) × (token.totals.taken.parts ≡ B.parts) }
+{
+    let shared = SharedBook::<B>::new(alloc, token);
+    let mut one = entered(rt, &shared);
+    let mut other = entered(rt, &shared);
+    list(rt, &shared, &mut one);
+    list(rt, &shared, &mut other);
+    let passes = vec![in alloc; other].expect(rt, "memory");
+    shared.audit(passes, Vec::new(alloc)).agreed
+}
+
+#[test]
+fn a_missing_pass_shows(rt: HostRuntime) -> Result<(), Fail> {
+    assert!(rt; !held_back::<Brand, _>(&rt, rt.alloc(), BookToken::new(rt.alloc())?));
+    Ok(())
+}
+
+/// The audit with no passes, where two entered and one of them made three calls; and its front then.
+fn none_handed_in<B: BookNaming, R: Wait + Abort>(
+    rt: &R,
+    alloc: Global,
+    token: BookToken,
+) -> (u64, Audit)
+    requires table { token.table.shared.table_id ≡ B.table }
+    requires made { (token.made.name ≡ B.made) × (token.made.parts ≡ B.seats) }
+    requires totals { (token.totals.taken.name ≡ B.taken) × (token.totals.delivered.name ≡ B.delivered) × (token.totals.taken.parts ≡ B.parts) }
+{
+    let shared = SharedBook::<B>::new(alloc, token);
+    let mut one = entered(rt, &shared);
+    let _other = entered(rt, &shared);
+    for _ in 0..3 {
+        list(rt, &shared, &mut one);
+    }
+    let front = shared.front(&mut one);
+    (front, shared.audit(Vec::new(alloc), Vec::new(alloc)))
+}
+
+/// Whether two passes entered, and the entries of the journal are three, which isn't what was handed in.
+fn lacks_calls(audit: &Audit) -> bool {
+    audit.entered == 2 && audit.book.entries().len() == 3 && !audit.agreed
+}
+
+#[test]
+fn an_audit_of_no_passes(rt: HostRuntime) -> Result<(), Fail> {
+    let (front, audit) = none_handed_in::<Brand, _>(&rt, rt.alloc(), BookToken::new(rt.alloc())?);
+    assert!(rt; front == 3);
+    assert!(rt; lacks_calls(&audit));
+    Ok(())
+}
+
+/// A list that is refused, since the journal is full.
+fn refused_list<B: BookNaming>(rt: &impl Wait, shared: &SharedBook<B>, pass: &mut Pass<B>) -> bool {
+    matches!(
+        shared.call(rt, pass, Call::ListTraces),
+        Reply::Refused(Refusal::JournalFull)
+    )
+}
+
+/// Two passes after one of them filled the journal, and both were refused one more call; and how many entries there are.
+fn fill<B: BookNaming, R: Wait + Abort>(
+    rt: &R,
+    alloc: Global,
+    token: BookToken,
+) -> ([u64; 4], usize)
+    requires table { token.table.shared.table_id ≡ B.table }
+    requires made { (token.made.name ≡ B.made) × (token.made.parts ≡ B.seats) }
+    requires totals { (token.totals.taken.name ≡ B.taken) × (token.totals.delivered.name ≡ B.delivered) × (token.totals.taken.parts ≡ B.parts) }
+{
+    let shared = SharedBook::<B>::new(alloc, token);
+    let mut one = entered(rt, &shared);
+    let mut other = entered(rt, &shared);
+    for _ in 0..MOST_ENTRIES {
+        list(rt, &shared, &mut one);
+    }
+    assert!(rt; refused_list(rt, &shared, &mut one));
+    assert!(rt; refused_list(rt, &shared, &mut other));
+    let found = [one.made(), one.seen(), other.made(), other.seen()];
+    let audit = shared.audit(Vec::new(alloc), Vec::new(alloc));
+    (found, audit.book.entries().len())
+}
+
+#[test]
+fn full_journal(rt: HostRuntime) -> Result<(), Fail> {
+    let (found, entries) = fill::<Brand, _>(&rt, rt.alloc(), BookToken::new(rt.alloc())?);
+    let most = MOST_ENTRIES as u64;
+    assert!(rt; found == [most, most, 0, most]);
+    assert!(rt; entries == MOST_ENTRIES);
+    Ok(())
+}
+
+/// How many passes enter, up to the first that is refused for their number.
+fn most_passes<B: BookNaming, R: Wait + Abort>(rt: &R, alloc: Global, token: BookToken) -> usize
+    requires table { token.table.shared.table_id ≡ B.table }
+    requires made { (token.made.name ≡ B.made) × (token.made.parts ≡ B.seats) }
+    requires totals { (token.totals.taken.name ≡ B.taken) × (token.totals.delivered.name ≡ B.delivered) × (token.totals.taken.parts ≡ B.parts) }
+{
+    let shared = SharedBook::<B>::new(alloc, token);
+    for n in 0..1_000 {
+        if let Err(refusal) = shared.enter(rt) {
+            assert!(rt; refusal == Refusal::TooManySessions);
+            return n;
+        }
+    }
+    1_000
+}
+
+#[test]
+fn so_many_enter_and_no_more(rt: HostRuntime) -> Result<(), Fail> {
+    let most = most_passes::<Brand, _>(&rt, rt.alloc(), BookToken::new(rt.alloc())?);
+    assert!(rt; most == MOST_SESSIONS);
+    Ok(())
+}

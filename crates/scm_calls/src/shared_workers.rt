@@ -1,0 +1,326 @@
+//! That workers work a shared book off, and that nobody waits for one who is at work.
+ghost use Rattle.std.specs.Prelude.{◌≡◌};
+
+use crate::shared::entered;
+use crate::shared_words::{ask, cells, claim, report};
+use crate::words::name;
+use scm_book::{Book, Call, Reply};
+use scm_expand::{FreeGate, Gate, Outcome, TaskSource, expand, run_workers};
+use scm_results::Tally;
+use scm_shared::{Audit, BookNaming, BookToken, Pass, SharedBook};
+use std::alloc::Global;
+use std::marker::Brand;
+use std::process::Abort;
+use std::sync::Wait;
+use std::sync::atomic::{AtomicBool, Ordering};
+use std::test::Fail;
+use std::thread;
+use std::thread::Threads;
+
+const MOST_TURNS: u64 = 1_000_000_000;
+
+/// A call that is answered `Done`.
+fn done<B: BookNaming, R: Wait + Abort>(
+    rt: &R,
+    shared: &SharedBook<B>,
+    pass: &mut Pass<B>,
+    call: Call,
+) {
+    assert!(rt; matches!(shared.call(rt, pass, call), Reply::Done));
+}
+
+/// Opens t with the cells x and y, and claims its two processes.
+fn open_two<B: BookNaming, R: Wait + Abort>(
+    rt: &R,
+    alloc: Global,
+    shared: &SharedBook<B>,
+    pass: &mut Pass<B>,
+) {
+    let open = Call::OpenTrace {
+        name: name(rt, b"t"),
+        procs: 2,
+        budget: 100,
+        cells: cells(rt, alloc).expect(rt, "memory"),
+    };
+    done(rt, shared, pass, open);
+    for process in 0..2 {
+        done(rt, shared, pass, claim(rt, process));
+    }
+}
+
+/// Each of two processes stores 1 in its own cell, and then loads 0 from the other's.
+fn buffer_stores<B: BookNaming, R: Wait + Abort>(
+    rt: &R,
+    shared: &SharedBook<B>,
+    pass: &mut Pass<B>,
+) {
+    done(rt, shared, pass, report(rt, 0, &[b"sw", b"x", b"1"]));
+    done(rt, shared, pass, report(rt, 0, &[b"lw", b"y", b"0"]));
+    done(rt, shared, pass, report(rt, 1, &[b"sw", b"y", b"1"]));
+    done(rt, shared, pass, report(rt, 1, &[b"lw", b"x", b"0"]));
+}
+
+/// Takes one task a turn, and drops it, until there is none.
+fn drop_tasks<B: BookNaming, R: Wait>(rt: &R, shared: &SharedBook<B>) -> Option<Tally<B>> {
+    let mut tally = shared.tally(rt)?;
+    for _ in 0..MOST_TURNS {
+        match shared.take(rt, 1, &mut tally) {
+            Ok(tasks) if tasks.is_empty() => return Some(tally),
+            Ok(_) => thread::yield_now(),
+            Err(_) => return None,
+        }
+    }
+    None
+}
+
+/// A pass, after the calls that open t and report store buffering.
+fn buffered<B: BookNaming, R: Wait + Abort>(
+    rt: &R,
+    alloc: Global,
+    shared: &SharedBook<B>,
+) -> Pass<B> {
+    let mut pass = entered(rt, shared);
+    open_two(rt, alloc, shared, &mut pass);
+    buffer_stores(rt, shared, &mut pass);
+    pass
+}
+
+/// The book of an audit that accounts for all, with so many tallies.
+fn accounted(rt: &impl Abort, audit: Audit, tallies: u32) -> Book {
+    assert!(rt; audit.agreed && audit.totals_agreed && audit.tallies == tallies);
+    audit.book
+}
+
+/// Two workers work the book off, while this thread takes tasks too and drops them. Gives all tallies.
+fn work_and_drop<B: BookNaming + Send + Sync, R: Threads + Wait + Abort + Sync>(
+    rt: &R,
+    alloc: Global,
+    shared: &SharedBook<B>,
+) -> Vec<Tally<B>> {
+    let (tally, tallies) = thread::join(
+        rt,
+        || {
+            let tally = drop_tasks(rt, shared);
+            shared.stop_workers();
+            tally
+        },
+        || run_workers::<B, SharedBook<B>, FreeGate, R>(rt, alloc, shared, &FreeGate, 2),
+    );
+    let mut tallies = tallies.expect(rt, "threads and memory");
+    tallies
+        .push(tally.expect(rt, "no task in the end"))
+        .expect(rt, "memory");
+    tallies
+}
+
+/// Works store buffering off.
+fn work_off<B: BookNaming + Send + Sync, R: Threads + Wait + Abort + Sync>(
+    rt: &R,
+    alloc: Global,
+    token: BookToken,
+) -> Book
+    requires table { token.table.shared.table_id ≡ B.table }
+    requires made { (token.made.name ≡ B.made) × (token.made.parts ≡ B.seats) }
+    requires totals { (token.totals.taken.name ≡ B.taken) × (token.totals.delivered.name ≡ B.delivered) × (token.totals.taken.parts ≡ B.parts) }
+{
+    let shared = SharedBook::<B>::new(alloc, token);
+    let pass = buffered(rt, alloc, &shared);
+    let tallies = work_and_drop(rt, alloc, &shared);
+    let passes = vec![in alloc; pass].expect(rt, "memory");
+    accounted(rt, shared.audit(passes, tallies), 4)
+}
+
+#[test]
+fn worked_off(rt: HostRuntime) -> Result<(), Fail> {
+    let mut book = work_off::<Brand, _>(&rt, rt.alloc(), BookToken::new(rt.alloc())?);
+    assert!(rt; book.results().accepted == 7);
+    assert!(rt; matches!(book.call(0, ask(&rt, None)), Reply::Inconsistent));
+    assert!(rt; book.steps() == 0);
+    Ok(())
+}
+
+/// A pass, after a question has looked at all there was in 91 situations, and then the report of a load that is legal in none.
+fn searched<B: BookNaming, R: Wait + Abort>(
+    rt: &R,
+    alloc: Global,
+    shared: &SharedBook<B>,
+) -> Pass<B> {
+    let mut pass = entered(rt, shared);
+    open_two(rt, alloc, shared, &mut pass);
+    for _ in 0..90 {
+        done(rt, shared, &mut pass, report(rt, 0, &[b"sw", b"x", b"1"]));
+    }
+    done(rt, shared, &mut pass, report(rt, 0, &[b"lw", b"x", b"2"]));
+    assert!(rt;
+        matches!(
+            shared.call(rt, &mut pass, ask(rt, None)),
+            Reply::Inconsistent
+        )
+    );
+    done(rt, shared, &mut pass, report(rt, 1, &[b"lw", b"x", b"3"]));
+    pass
+}
+
+/// Works these situations off, by several takings that bring nothing new.
+fn work_loads_off<B: BookNaming + Send + Sync, R: Threads + Wait + Abort + Sync>(
+    rt: &R,
+    alloc: Global,
+    token: BookToken,
+) -> Book
+    requires table { token.table.shared.table_id ≡ B.table }
+    requires made { (token.made.name ≡ B.made) × (token.made.parts ≡ B.seats) }
+    requires totals { (token.totals.taken.name ≡ B.taken) × (token.totals.delivered.name ≡ B.delivered) × (token.totals.taken.parts ≡ B.parts) }
+{
+    let shared = SharedBook::<B>::new(alloc, token);
+    let pass = searched(rt, alloc, &shared);
+    let tallies = work_and_drop(rt, alloc, &shared);
+    let passes = vec![in alloc; pass].expect(rt, "memory");
+    accounted(rt, shared.audit(passes, tallies), 4)
+}
+
+#[test]
+fn loads_are_worked_off(rt: HostRuntime) -> Result<(), Fail> {
+    let mut book = work_loads_off::<Brand, _>(&rt, rt.alloc(), BookToken::new(rt.alloc())?);
+    assert!(rt; book.results().known >= 91);
+    let steps = book.steps();
+    assert!(rt; matches!(book.call(0, ask(&rt, None)), Reply::Inconsistent));
+    assert!(rt; book.steps() == steps);
+    Ok(())
+}
+
+/// Holds workers until it is opened.
+#[derive(Drop)]
+struct Barrier {
+    came: AtomicBool,
+    open: AtomicBool,
+}
+
+impl Gate for Barrier {
+    fn before_expand(&self, _worker: usize) {
+        self.came.store(true, Ordering::SeqCst);
+        let _ = is_set(&self.open);
+    }
+}
+
+/// Whether it is set in the end.
+fn is_set(flag: &AtomicBool) -> bool {
+    for _ in 0..MOST_TURNS {
+        if flag.load(Ordering::SeqCst) {
+            return true;
+        }
+        thread::yield_now();
+    }
+    false
+}
+
+/// Whether a report and a question are answered while a worker is held.
+fn answers<B: BookNaming, R: Wait + Abort>(
+    rt: &R,
+    shared: &SharedBook<B>,
+    pass: &mut Pass<B>,
+    barrier: &Barrier,
+) -> bool {
+    let came = is_set(&barrier.came);
+    let reported = shared.call(rt, pass, report(rt, 0, &[b"sw", b"x", b"2"]));
+    let answered = shared.call(rt, pass, ask(rt, None));
+    came && matches!(reported, Reply::Done) && matches!(answered, Reply::Inconsistent)
+}
+
+fn call_meanwhile<B: BookNaming + Send + Sync, R: Threads + Wait + Abort + Sync>(
+    rt: &R,
+    alloc: Global,
+    token: BookToken,
+) -> Book
+    requires table { token.table.shared.table_id ≡ B.table }
+    requires made { (token.made.name ≡ B.made) × (token.made.parts ≡ B.seats) }
+    requires totals { (token.totals.taken.name ≡ B.taken) × (token.totals.delivered.name ≡ B.delivered) × (token.totals.taken.parts ≡ B.parts) }
+{
+    let barrier = Barrier {
+        came: AtomicBool::new(false),
+        open: AtomicBool::new(false),
+    };
+    let shared = SharedBook::<B>::new(alloc, token);
+    let mut pass = buffered(rt, alloc, &shared);
+    let (answered, tallies) = thread::join(
+        rt,
+        || {
+            let answered = answers(rt, &shared, &mut pass, &barrier);
+            shared.stop_workers();
+            barrier.open.store(true, Ordering::SeqCst);
+            answered
+        },
+        || run_workers::<B, SharedBook<B>, Barrier, R>(rt, alloc, &shared, &barrier, 2),
+    );
+    assert!(rt; answered);
+    let passes = vec![in alloc; pass].expect(rt, "memory");
+    let tallies = tallies.expect(rt, "threads and memory");
+    accounted(rt, shared.audit(passes, tallies), 3)
+}
+
+#[test]
+fn report_during_expand(rt: HostRuntime) -> Result<(), Fail> {
+    let book = call_meanwhile::<Brand, _>(&rt, rt.alloc(), BookToken::new(rt.alloc())?);
+    assert!(rt; book.results().delivered() >= 1);
+    Ok(())
+}
+
+/// What comes of two tasks.
+fn two_outcomes<B: BookNaming, R: Wait + Abort>(
+    rt: &R,
+    alloc: Global,
+    shared: &SharedBook<B>,
+    tally: &mut Tally<B>,
+) -> Vec<Outcome> {
+    let mut outcomes = Vec::new(alloc);
+    for task in shared.take(rt, 2, tally).expect(rt, "memory") {
+        let Ok(outcome) = expand(task) else {
+            panic!(rt; "no memory");
+        };
+        outcomes.push(outcome).expect(rt, "memory");
+    }
+    assert!(rt; outcomes.len() == 2);
+    outcomes
+}
+
+fn copies(rt: &impl Abort, alloc: Global, outcomes: &[Outcome]) -> Vec<Outcome> {
+    let mut copies = Vec::new(alloc);
+    for outcome in outcomes {
+        let copy = outcome.copy().expect(rt, "memory");
+        copies.push(copy).expect(rt, "memory");
+    }
+    copies
+}
+
+/// How many changes there were before and after a delivery; and before and after one of the same outcomes, once their trace is
+/// closed.
+fn deliver_late<B: BookNaming, R: Wait + Abort>(rt: &R, alloc: Global, token: BookToken) -> [u64; 4]
+    requires table { token.table.shared.table_id ≡ B.table }
+    requires made { (token.made.name ≡ B.made) × (token.made.parts ≡ B.seats) }
+    requires totals { (token.totals.taken.name ≡ B.taken) × (token.totals.delivered.name ≡ B.delivered) × (token.totals.taken.parts ≡ B.parts) }
+{
+    let shared = SharedBook::<B>::new(alloc, token);
+    let mut pass = buffered(rt, alloc, &shared);
+    let mut tally = shared.tally(rt).expect(rt, "a tally");
+    let outcomes = two_outcomes(rt, alloc, &shared, &mut tally);
+    let again = copies(rt, alloc, &outcomes);
+    let before = shared.wait(rt, 0);
+    shared.deliver(rt, outcomes, &mut tally);
+    let after = shared.wait(rt, 0);
+    let name = name(rt, b"t");
+    done(rt, &shared, &mut pass, Call::CloseTrace { name });
+    let closed = shared.wait(rt, 0);
+    shared.deliver(rt, again, &mut tally);
+    assert!(rt; tally.delivered() == 4);
+    [before, after, closed, shared.wait(rt, 0)]
+}
+
+#[test]
+fn a_late_delivery_wakes_nobody(rt: HostRuntime) -> Result<(), Fail> {
+    let [before, after, closed, late] = deliver_late::<Brand, _>(
+        &rt,
+        rt.alloc(),
+        BookToken::new(rt.alloc())?,
+    );
+    assert!(rt; before < after && closed == late);
+    Ok(())
+}

@@ -1,0 +1,20 @@
+//! What the search for schedules and the search for refutations both stand on: one numbering of a trace's operations, the
+//! values that they find and write, and vector clocks of what comes before what. Nothing of it is believed, and no contract
+//! here says more than that a call is safe and ends.
+#![tactic(auto)]
+
+mod clocks;
+mod flags;
+mod grid;
+mod numbering;
+mod numbers;
+mod values;
+mod writes;
+
+pub use clocks::Clocks;
+pub use flags::Flags;
+pub use grid::Grid;
+pub use numbering::Numbering;
+pub use numbers::{Numbers, is_covered};
+pub use values::Values;
+pub use writes::Writes;

@@ -1,0 +1,137 @@
+//! Scripts run over a shared book, beside workers.
+
+use crate::fakes::{StepReader, StepWriter, Wire};
+use crate::scripts::{ALL_KINDS, ALL_REPLIES, MESSAGE, REPLIES, replies_to};
+use scm_expand::FreeGate;
+use scm_sessions::{Findings, Port, RunFault, run_with_workers};
+use scm_shared::{Audit, BookToken};
+use std::alloc::Global;
+use std::marker::Brand;
+use std::sync::Wait;
+use std::test::Fail;
+use std::thread::Threads;
+
+/// How a script ran: whether its audit agreed, or its fault; what was written, and whether a reply came late.
+#[derive(Drop)]
+pub(crate) struct Ran {
+    pub(crate) ended: Result<bool, RunFault>,
+    pub(crate) written: Vec<u8>,
+    is_late: bool,
+}
+
+/// How many bytes a reader gives and a writer takes at once, and after how many they fail.
+#[derive(Clone, Copy)]
+pub(crate) struct Limits {
+    step: usize,
+    read: usize,
+    write: usize,
+}
+
+impl Limits {
+    /// No end that fails.
+    pub(crate) fn none(step: usize) -> Limits {
+        Limits {
+            step,
+            read: usize::MAX,
+            write: usize::MAX,
+        }
+    }
+}
+
+fn is_agreed(audit: &Audit) -> bool {
+    audit.agreed && audit.totals_agreed
+}
+
+/// Runs a script beside so many workers.
+pub(crate) fn run_of<T: Threads + Wait + Sync>(
+    rt: &T,
+    alloc: Global,
+    script: &[u8],
+    limits: Limits,
+    workers: usize,
+) -> Result<Ran, Fail> {
+    let wire = Wire::new();
+    let mut reader = Port::new(StepReader {
+        script,
+        step: limits.step,
+        limit: limits.read,
+        wire: &wire,
+    });
+    let mut writer = Port::new(StepWriter {
+        taken: Vec::new(alloc),
+        step: limits.step,
+        limit: limits.write,
+        wire: &wire,
+    });
+    let token = BookToken::new(alloc)?;
+    let ended = run_with_workers::<Brand, _, _, FreeGate, T>(
+        rt,
+        alloc,
+        token,
+        &mut reader,
+        &mut writer,
+        &mut Findings::new(),
+        &FreeGate,
+        workers,
+    );
+    Ok(Ran {
+        ended: ended.map(|ended| is_agreed(&ended.audit)),
+        written: writer.into_inner().taken,
+        is_late: wire.is_late.get(),
+    })
+}
+
+#[test]
+fn replies_go_out_beside_workers(rt: HostRuntime) -> Result<(), Fail> {
+    for workers in 0..5 {
+        for (script, replies) in [(MESSAGE, REPLIES), (ALL_KINDS, ALL_REPLIES)] {
+            let ran = run_of(&rt, rt.alloc(), script.as_bytes(), Limits::none(7), workers)?;
+            assert_eq!(rt; ran.ended, Ok(true));
+            assert_eq!(rt;
+                ran.written.as_slice(),
+                replies.as_bytes(),
+                "beside {workers}"
+            );
+            assert!(rt; !ran.is_late, "a reply came late beside {workers}");
+        }
+    }
+    Ok(())
+}
+
+#[test]
+fn a_read_fault_ends_the_workers(rt: HostRuntime) -> Result<(), Fail> {
+    let script = MESSAGE.as_bytes();
+    for read in [0, 1, 20, 21, 60, 80, script.len()] {
+        let limits = Limits {
+            read,
+            ..Limits::none(8)
+        };
+        let ran = run_of(&rt, rt.alloc(), script, limits, 2)?;
+        assert_eq!(rt; ran.ended, Err(RunFault::ReadFailed));
+        let (front, _) = script.split_at_checked(read).ok_or("a place")?;
+        assert_eq!(rt;
+            ran.written.as_slice(),
+            replies_to(front, REPLIES.as_bytes()),
+            "at {read}"
+        );
+        assert!(rt; !ran.is_late, "a reply came late at {read}");
+    }
+    Ok(())
+}
+
+#[test]
+fn a_write_fault_ends_the_workers(rt: HostRuntime) -> Result<(), Fail> {
+    let replies = REPLIES.as_bytes();
+    for write in [0, 1, 5, 20, 40, replies.len()] {
+        let limits = Limits {
+            write,
+            ..Limits::none(8)
+        };
+        let ran = run_of(&rt, rt.alloc(), MESSAGE.as_bytes(), limits, 2)?;
+        assert_eq!(rt; ran.ended, Err(RunFault::WriteFailed));
+        let (front, _) = replies.split_at_checked(write).ok_or("a place")?;
+        assert_eq!(rt; ran.written.as_slice(), front, "at {write}");
+        assert!(rt; !ran.is_late, "read on at {write}");
+    }
+    Ok(())
+}

@@ -1,0 +1,233 @@
+-- What a line asks goes into the group of its name.
+use Rattle.std.proofs.Common.{◌≡◌, ℕ, zero, suc, ◌+◌, List, [], ◌∷◌, ◌++◌, refl, sym, ap, ap₂, ◌∙◌, subst, arith, Bool, true, false, not, ◌||◌, Option, Result, Ok, Err, OnOk, set, get_or, fold, filter, map}
+use Rattle.std.specs.List.{list_any, position_or_len}
+use Rattle.std.specs.Option.{option_eq}
+use Rattle.std.specs.Io.KnownBytes.{Consumes, Keeps, IsAtEnd, prepend_known}
+use Rattle.std.proofs.KnownBytes.{Consumes-nil, Consumes-trans, Consumes-kept, prepend_known-nil}
+use Rattle.std.proofs.lemmas.List.{map-append}
+use Rattle.std.proofs.lemmas.List.Elements.{filter-append}
+use Rattle.scm_cells.specs.Names.{name_eq}
+use Rattle.scm_sessions.specs.declared.reading.Cut.TheVariants.{Whole, Last}
+use Rattle.scm_sessions.specs.Lines.{Line, line_of, HasNoFeed}
+use Rattle.scm_sessions.specs.Asking.{Asked, asked_by, name_in}
+use Rattle.scm_sessions.specs.Exchanges.{has_reply, asked_in}
+use Rattle.scm_sessions.specs.Reading.{TakesLine}
+use Rattle.scm_sessions.specs.Groups.{Group, group, has_name, with_asked, groups_of, with_name, with_line, names_of, GroupsWhole, GroupsWholeLines}
+use Rattle.scm_sessions.proofs.Cutting.{AreLines, AreLines-nil, AreLines-more, lines_of-end, lines_of-last, whole_lines_of-part}
+use Rattle.scm_sessions.proofs.Running.{end_after}
+
+-- ---- places
+
+-- the place of the group of this name, or the next free one
+abbrev pub place_in : List Group → Option (List ℕ) → ℕ
+place_in groups name = position_or_len (has_name name) groups
+
+abbrev pub is_in : List Group → Option (List ℕ) → Bool
+is_in groups name = list_any (has_name name) groups
+
+first_place : (g : Group) (groups : List Group) (name : Option (List ℕ)) → has_name name g ≡ true → place_in (g ∷ groups) name ≡ 0
+first_place g groups name found = rw found refl
+
+next_place : (g : Group) (groups : List Group) (name : Option (List ℕ)) → has_name name g ≡ false
+    → place_in (g ∷ groups) name ≡ suc (place_in groups name)
+next_place g groups name other = rw other (omega arith)
+
+place_of_name : (groups : List Group) (name : Option (List ℕ)) → position_or_len (option_eq name_eq name) (names_of groups) ≡ place_in groups name
+place_of_name [] name = refl
+place_of_name (g ∷ groups) name = at (has_name name g) refl (place_of_name groups name)
+  where
+    at : (b : Bool) → has_name name g ≡ b → position_or_len (option_eq name_eq name) (names_of groups) ≡ place_in groups name
+        → position_or_len (option_eq name_eq name) (names_of (g ∷ groups)) ≡ place_in (g ∷ groups) name
+    at true is rest = rw is refl
+    at false is rest = rw is (ap (λ (n : ℕ). 1 + n) rest)
+
+is_in-names : (groups : List Group) (name : Option (List ℕ)) → list_any (option_eq name_eq name) (names_of groups) ≡ is_in groups name
+is_in-names [] name = refl
+is_in-names (g ∷ groups) name = ap (λ b. has_name name g || b) (is_in-names groups name)
+
+-- ---- a name, and the group of it
+
+module _ (keys : List (Option (List ℕ))) (groups now : List Group) (found name : Option (List ℕ)) (same : found ≡ name) (named : keys ≡ names_of groups)
+    (is_now : groups ≡ now) where
+  pub place_is : (place : ℕ) → place ≡ position_or_len (option_eq name_eq found) keys → place ≡ place_in now name
+  place_is place is =
+      is ∙ ap₂ (λ (n : Option (List ℕ)) (ks : List (Option (List ℕ))). position_or_len (option_eq name_eq n) ks) same named ∙ place_of_name groups name
+      ∙ ap (λ (gs : List Group). place_in gs name) is_now
+
+  was_in : (is_new b : Bool) → is_new ≡ not (list_any (option_eq name_eq found) keys) → is_new ≡ b → b ≡ not (is_in now name)
+  was_in is_new b added is =
+      sym is ∙ added
+      ∙ ap not (ap₂ (λ (n : Option (List ℕ)) (ks : List (Option (List ℕ))). list_any (option_eq name_eq n) ks) same named ∙ is_in-names groups name
+      ∙ ap (λ (gs : List Group). is_in gs name) is_now)
+
+  with_old : (there : Bool) → is_in now name ≡ there → false ≡ not there → with_name now name ≡ now
+  with_old true is there = rw is refl
+  with_old false is there = absurd (cc)
+
+  with_new : (there : Bool) → is_in now name ≡ there → true ≡ not there → with_name now name ≡ now ++ group name [] ∷ []
+  with_new true is there = absurd (cc)
+  with_new false is there = rw is refl
+
+  -- it has one already
+  pub old_group : (is_new : Bool) (reserved : List Group) → is_new ≡ not (list_any (option_eq name_eq found) keys) → is_new ≡ false → reserved ≡ groups
+      → reserved ≡ with_name now name
+  old_group is_new reserved added is stays = stays ∙ is_now ∙ sym (with_old (is_in now name) refl (was_in is_new false added is))
+
+  -- it has one now
+  pub new_group : (is_new : Bool) (reserved later : List Group) (new : Group) (read : Option (List ℕ)) → is_new ≡ not (list_any (option_eq name_eq found) keys)
+      → is_new ≡ true → reserved ≡ groups → later ≡ reserved ++ new ∷ [] → new ≡ group read [] → read ≡ name → later ≡ with_name now name
+  new_group is_new reserved later new read added is stays pushed made reads =
+      pushed ∙ ap₂ (λ (gs : List Group) (g : Group). gs ++ g ∷ []) (stays ∙ is_now) (made ∙ ap (λ (n : Option (List ℕ)). group n []) reads)
+      ∙ sym (with_new (is_in now name) refl (was_in is_new true added is))
+
+-- ---- one line more
+
+-- the same group with one line more
+abbrev more : Group → Asked → Group
+more g a = group g.name (g.asked ++ a ∷ [])
+
+with_name-first : (g : Group) (groups : List Group) (name : Option (List ℕ)) → has_name name g ≡ true → with_name (g ∷ groups) name ≡ g ∷ groups
+with_name-first g groups name found = rw found refl
+
+with_name-next : (g : Group) (groups : List Group) (name : Option (List ℕ)) → has_name name g ≡ false
+    → with_name (g ∷ groups) name ≡ g ∷ with_name groups name
+with_name-next g groups name other = at (is_in groups name) refl
+  where
+    at : (b : Bool) → is_in groups name ≡ b → with_name (g ∷ groups) name ≡ g ∷ with_name groups name
+    at true is = rw other (rw is refl)
+    at false is = rw other (rw is refl)
+
+with_asked-first : (g : Group) (groups : List Group) (a : Asked) → has_name (name_in a) g ≡ true → with_asked (g ∷ groups) a ≡ more g a ∷ groups
+with_asked-first g groups a found = rw found refl
+
+with_asked-next : (g : Group) (groups : List Group) (a : Asked) → has_name (name_in a) g ≡ false
+    → with_asked (g ∷ groups) a ≡ g ∷ with_asked groups a
+with_asked-next g groups a other = rw other refl
+
+-- where the group at the place of its name had one line more, the groups had it
+abbrev Puts : List Group → Asked → Group → Group → Type 0
+Puts groups a old new = old ≡ get_or (with_name groups (name_in a)) (place_in groups (name_in a)) old
+    → set (with_name groups (name_in a)) (place_in groups (name_in a)) new ≡ with_asked groups a
+
+pub line_pushed : (groups : List Group) (a : Asked) (old new : Group) → new ≡ more old a → Puts groups a old new
+line_pushed [] a old new is was = ap (λ (g : Group). g ∷ []) (is ∙ ap (λ (g : Group). more g a) was)
+line_pushed (g ∷ groups) a old new is was = at (has_name (name_in a) g) refl (line_pushed groups a old new is)
+  where
+    at : (b : Bool) → has_name (name_in a) g ≡ b → Puts groups a old new
+        → set (with_name (g ∷ groups) (name_in a)) (place_in (g ∷ groups) (name_in a)) new ≡ with_asked (g ∷ groups) a
+    at true first others =
+        let names = with_name-first g groups (name_in a) first in
+        let place = first_place g groups (name_in a) first in
+        let here : old ≡ g = was ∙ ap₂ (λ (gs : List Group) (k : ℕ). get_or gs k old) names place in
+        ap₂ (λ (gs : List Group) (k : ℕ). set gs k new) names place ∙ ap (λ (x : Group). x ∷ groups) (is ∙ ap (λ (x : Group). more x a) here)
+        ∙ sym (with_asked-first g groups a first)
+    at false other others =
+        let names = with_name-next g groups (name_in a) other in
+        let place = next_place g groups (name_in a) other in
+        let there : old ≡ get_or (with_name groups (name_in a)) (place_in groups (name_in a)) old =
+        was ∙ ap₂ (λ (gs : List Group) (k : ℕ). get_or gs k old) names place in
+        ap₂ (λ (gs : List Group) (k : ℕ). set gs k new) names place ∙ ap (λ (gs : List Group). g ∷ gs) (others there)
+        ∙ sym (with_asked-next g groups a other)
+
+-- the names stay
+pub names_set : (groups : List Group) (k : ℕ) (old new : Group) → old ≡ get_or groups k old → new.name ≡ old.name → names_of (set groups k new) ≡ names_of groups
+names_set [] k old new was same = refl
+names_set (g ∷ groups) zero old new was same = ap (λ (n : Option (List ℕ)). n ∷ names_of groups) (same ∙ ap (λ (x : Group). x.name) was)
+names_set (g ∷ groups) (suc k) old new was same = ap (λ (ns : List (Option (List ℕ))). g.name ∷ ns) (names_set groups k old new was same)
+
+-- the same, where the groups stand elsewhere
+pub pushed_at : (now items mid : List Group) (place : ℕ) (a : Asked) (old new : Group) → items ≡ mid → mid ≡ with_name now (name_in a)
+    → place ≡ place_in now (name_in a) → old ≡ get_or items place old → new ≡ more old a → set items place new ≡ with_asked now a
+pushed_at now items mid place a old new view named is_place was is =
+    let there : old ≡ get_or (with_name now (name_in a)) (place_in now (name_in a)) old =
+    was ∙ ap₂ (λ (gs : List Group) (k : ℕ). get_or gs k old) (view ∙ named) is_place in
+    ap₂ (λ (gs : List Group) (k : ℕ). set gs k new) (view ∙ named) is_place ∙ line_pushed now a old new is there
+
+pub on_ok : {X E A B : Type 0} (r : Result X E) → (A → B) → OnOk r A → OnOk r B
+on_ok (Ok x) f a = f a
+on_ok (Err e) f a = tt
+
+-- ---- line by line
+
+fold_on : {A B : Type 0} (f : B → A → B) (start : B) (xs ys : List A) → fold f start (xs ++ ys) ≡ fold f (fold f start xs) ys
+fold_on f start [] ys = refl
+fold_on f start (x ∷ xs) ys = fold_on f (f start x) xs ys
+
+asked_in_more : (lines : List Line) (line : Line) → asked_in (lines ++ line ∷ []) ≡ asked_in lines ++ asked_in (line ∷ [])
+asked_in_more lines line =
+    ap (λ (asked : List Asked). filter has_reply asked) (map-append asked_by lines (line ∷ []))
+    ∙ filter-append has_reply (map asked_by lines) (map asked_by (line ∷ []))
+
+-- the groups of these lines and one more
+groups_more : (lines : List Line) (line : Line) → with_line (groups_of (asked_in lines)) line ≡ groups_of (asked_in (lines ++ line ∷ []))
+groups_more lines line =
+    sym (ap groups_of (asked_in_more lines line) ∙ fold_on with_asked [] (asked_in lines) (asked_in (line ∷ [])))
+
+-- bytes were taken from a script and are lines, which stand in their groups
+pub record HasGrouped (script left : Option (List ℕ)) (groups : List Group) : Type 0 where
+  pub bytes : List ℕ
+  pub lines : List Line
+  pub read : Consumes script left bytes
+  pub are : AreLines bytes lines
+  pub grouped : groups ≡ groups_of (asked_in lines)
+
+pub HasGrouped-start : (unread : List ℕ) (script : Option (List ℕ)) (groups : List Group) → unread ≡ [] → groups ≡ []
+    → HasGrouped script (prepend_known unread script) groups
+HasGrouped-start unread script groups none new = record {
+  bytes = [];
+  lines = [];
+  read = let P : Option (List ℕ) → Type 0 = λ l. Consumes script l [] in
+      subst P (sym (ap (λ u. prepend_known u script) none ∙ prepend_known-nil script)) (Consumes-nil script);
+  are = AreLines-nil;
+  grouped = new;
+}
+
+more_grouped : (before : List Group) (lines : List Line) (line : Line) (piece : List ℕ) (after : List Group) → before ≡ groups_of (asked_in lines)
+    → line ≡ line_of piece → after ≡ with_line before line → after ≡ groups_of (asked_in (lines ++ line_of piece ∷ []))
+more_grouped before lines line piece after had is put =
+    put ∙ ap₂ with_line had is ∙ groups_more lines (line_of piece)
+
+module _ {script left : Option (List ℕ)} {before : List Group} (had : HasGrouped script left before) where
+  -- one more whole line
+  pub HasGrouped-more : (next : Option (List ℕ)) (line : Line) (after : List Group) → TakesLine Whole left next line → after ≡ with_line before line
+      → HasGrouped script next after
+  HasGrouped-more next line after takes put = record {
+    bytes = had.bytes ++ (takes.0 ++ 10 ∷ []);
+    lines = had.lines ++ line_of takes.0 ∷ [];
+    read = Consumes-trans script left next _ _ had.read takes.2;
+    are = AreLines-more takes.0 had.are takes.1;
+    grouped = more_grouped before had.lines line takes.0 after had.grouped takes.3 put;
+  }
+
+  -- the script is at its end
+  pub GroupsWhole-end : (unread : List ℕ) (rest : Option (List ℕ)) → IsAtEnd (prepend_known unread rest) × Keeps left (prepend_known unread rest)
+      → GroupsWhole script rest before
+  GroupsWhole-end unread rest takes =
+      let ends = end_after unread script rest had.bytes (Consumes-kept script left _ had.bytes had.read takes.1) takes.0 in
+      record {
+        bytes = had.bytes;
+        consumed = ends.0;
+        ended = ends.1;
+        grouped = had.grouped ∙ ap (λ (lines : List Line). groups_of (asked_in lines)) (sym (lines_of-end had.are));
+      }
+
+  -- the last line has no line feed
+  pub GroupsWhole-last : (unread : List ℕ) (rest : Option (List ℕ)) (line : Line) (after : List Group) → TakesLine Last left (prepend_known unread rest) line
+      → after ≡ with_line before line → GroupsWhole script rest after
+  GroupsWhole-last unread rest line after takes put =
+      let ends = end_after unread script rest (had.bytes ++ takes.0) (Consumes-trans script left _ _ _ had.read takes.3) takes.4 in
+      record {
+        bytes = had.bytes ++ takes.0;
+        consumed = ends.0;
+        ended = ends.1;
+        grouped = more_grouped before had.lines line takes.0 after had.grouped takes.5 put
+            ∙ ap (λ (lines : List Line). groups_of (asked_in lines)) (sym (lines_of-last takes.0 had.are takes.1 takes.2));
+      }
+
+  -- a read failed
+  pub GroupsWholeLines-part : (rest : Option (List ℕ)) → (part : List ℕ) × HasNoFeed part × Consumes left rest part → GroupsWholeLines script rest before
+  GroupsWholeLines-part rest broken = record {
+    bytes = had.bytes ++ broken.0;
+    consumed = Consumes-trans script left rest _ _ had.read broken.2;
+    grouped = had.grouped ∙ ap (λ (lines : List Line). groups_of (asked_in lines)) (sym (whole_lines_of-part broken.0 had.are broken.1));
+  }

@@ -1,0 +1,87 @@
+-- What a run found that a tester wants to know at once: the first line that was refused, and what questions were answered. This
+-- project's profile.
+use Rattle.std.specs.Prelude.{ℕ, ◌≡◌, ◌+◌, ◌-◌, ◌^◌, min, List, [], ◌∷◌, length, map, Bool, true, false, if◌then◌else◌, Option, None, Some, is_some}
+use Rattle.std.specs.List.{list_any, zip}
+use Rattle.std.specs.Option.{option_map, option_or}
+use Rattle.scm_sequences.specs.declared.refusal.Refusal.{Refusal}
+use Rattle.scm_book.specs.Calls.{ReplyData, inconsistent, undecided, because, refused}
+use Rattle.scm_sessions.specs.declared.findings.Findings.{Findings}
+use Rattle.scm_sessions.specs.declared.findings.RefusedLine.{RefusedLine}
+use Rattle.scm_sessions.specs.Lines.{Line, lines_of}
+use Rattle.scm_sessions.specs.Asking.{asked_by}
+use Rattle.scm_sessions.specs.Exchanges.{Exchange, has_reply, RunsWhole}
+
+abbrev pub replies_of : List Exchange → List ReplyData
+replies_of exchanges = map (λ e. e.reply) exchanges
+
+-- the numbers of those of the lines that have a reply, where the first line has this number
+abbrev pub numbers_from : ℕ → List Line → List ℕ
+numbers_from n [] = []
+numbers_from n (line ∷ lines) =
+    if has_reply (asked_by line) then n ∷ numbers_from (n + 1) lines else numbers_from (n + 1) lines
+
+abbrev pub refusal_in : ReplyData → Option Refusal
+refusal_in (refused refusal) = Some refusal
+refusal_in reply = None
+
+abbrev pub answers_inconsistent : ReplyData → Bool
+answers_inconsistent inconsistent = true
+answers_inconsistent (because situations) = true
+answers_inconsistent reply = false
+
+abbrev pub answers_undecided : ReplyData → Bool
+answers_undecided undecided = true
+answers_undecided reply = false
+
+-- numbers of lines are told up to 2^64 - 1
+abbrev pub told : ℕ → ℕ
+told n = min n (2 ^ 64 - 1)
+
+-- the line of this number, where it was refused
+abbrev pub refused_line : ℕ → ReplyData → Option RefusedLine
+refused_line n reply = option_map (λ refusal. record { number = told n; refusal = refusal }) (refusal_in reply)
+
+-- the first of the replies that is a refusal, each reply with the number of its line
+abbrev pub first_refused : List (ℕ × ReplyData) → Option RefusedLine
+first_refused [] = None
+first_refused (line ∷ lines) = option_or (refused_line line.0 line.1) (first_refused lines)
+
+-- what a run over these lines found, whose exchanges these are
+abbrev pub findings_of : List Line → List Exchange → Findings
+findings_of lines exchanges = record {
+  lines = told (length lines);
+  refused = first_refused (zip (numbers_from 1 lines) (replies_of exchanges));
+  is_inconsistent = list_any answers_inconsistent (replies_of exchanges);
+  is_undecided = list_any answers_undecided (replies_of exchanges);
+}
+
+-- the status that tells the worst of it
+abbrev pub status_of : Findings → ℕ
+status_of found =
+    if is_some found.refused then 4
+    else (if found.is_inconsistent then 5
+    else (if found.is_undecided then 6 else 0))
+
+-- the whole script was run, with these findings
+pub record FindsWhole (script left written after : Option (List ℕ)) (Run : List Exchange → Type 0) (found : Findings) : Type 0 where
+  pub runs : RunsWhole script left written after Run
+  pub found_is : found ≡ findings_of (lines_of runs.bytes) runs.exchanges
+
+-- ---- line by line
+
+-- one line more
+abbrev pub with_line : Findings → Findings
+with_line found = record found { lines = told (found.lines + 1) }
+
+-- the reply to the last line
+abbrev pub with_reply : Findings → ReplyData → Findings
+with_reply found reply = record found {
+  refused = option_or found.refused (refused_line found.lines reply);
+  is_inconsistent = if answers_inconsistent reply then true else found.is_inconsistent;
+  is_undecided = if answers_undecided reply then true else found.is_undecided;
+}
+
+-- one line more, with its reply where it has one
+abbrev pub with_answer : Findings → List ReplyData → Findings
+with_answer found [] = with_line found
+with_answer found (reply ∷ others) = with_reply (with_line found) reply
