@@ -12,6 +12,7 @@ use scm_cells::read_count;
 #[derive(Clone, Copy, Debug, PartialEq, Eq)]
 pub struct Asked {
     workers: Option<u8>,
+    each: bool,
     check: bool,
     journal: bool,
 }
@@ -42,6 +43,7 @@ impl Asked {
     {
         Asked {
             workers: None,
+            each: false,
             check: false,
             journal: false,
         }
@@ -62,12 +64,15 @@ impl Asked {
         })
     }
 
-    /// What this word asks for too; `None` where it asks for nothing, or was there before.
+    /// What this word asks for too; `None` where it asks for nothing, was there before, or doesn't go with what was asked for.
     fn with_flag(self, word: &str) -> Option<Asked>
         ensures with { result ≡ with_flag self word.now }
         ensures kept { IfSome result (λ asked. asked.workers ≡ self.workers) }
     {
-        if is_word(word, "--check") && !self.check {
+        if is_word(word, "--each") && !self.each && !self.check {
+            return Some(Asked { each: true, ..self });
+        }
+        if is_word(word, "--check") && !self.check && !self.each {
             return Some(Asked {
                 check: true,
                 ..self
@@ -99,6 +104,7 @@ impl Asked {
     {
         Options {
             workers: self.workers.unwrap_or(DEFAULT_WORKERS),
+            each: self.each,
             check: self.check,
             journal: self.journal,
         }

@@ -14,6 +14,8 @@ mod cutting;
 #[cfg(test)]
 mod cycles;
 #[cfg(test)]
+mod each;
+#[cfg(test)]
 mod evidence;
 #[cfg(test)]
 mod examples;

@@ -97,10 +97,10 @@ with_name-next g groups name other = at (is_in groups name) refl
     at true is = rw other (rw is refl)
     at false is = rw other (rw is refl)
 
-with_asked-first : (g : Group) (groups : List Group) (a : Asked) → has_name (name_in a) g ≡ true → with_asked (g ∷ groups) a ≡ more g a ∷ groups
+pub with_asked-first : (g : Group) (groups : List Group) (a : Asked) → has_name (name_in a) g ≡ true → with_asked (g ∷ groups) a ≡ more g a ∷ groups
 with_asked-first g groups a found = rw found refl
 
-with_asked-next : (g : Group) (groups : List Group) (a : Asked) → has_name (name_in a) g ≡ false
+pub with_asked-next : (g : Group) (groups : List Group) (a : Asked) → has_name (name_in a) g ≡ false
     → with_asked (g ∷ groups) a ≡ g ∷ with_asked groups a
 with_asked-next g groups a other = rw other refl
 

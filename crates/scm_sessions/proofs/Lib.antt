@@ -13,4 +13,9 @@ pub mod Grouping
 pub mod Making
 pub mod Entries
 pub mod Sharing
+pub mod Replying
+pub mod GroupNames
+pub mod GroupAnswers
+pub mod EachRuns
+pub mod Entered
 mod WithText

@@ -11,14 +11,13 @@ use Rattle.scm_cells.specs.Names.{name_eq}
 use Rattle.scm_book.specs.Calls.{CallData, ReplyData, done, marked, consistent, inconsistent, undecided, because, cycle, unknown, ops, listed, refused}
 use Rattle.scm_book.specs.Journal.{makes_entry}
 use Rattle.scm_shared.specs.Passes.{Known, newcomer, Extended, SeenFull}
-use Rattle.scm_sessions.specs.Asking.{good}
 use Rattle.scm_sessions.specs.Script.{session_of}
-use Rattle.scm_sessions.specs.SharedRuns.{became_entry, entry_in}
+use Rattle.scm_sessions.specs.SharedRuns.{became_entry}
 use Rattle.scm_sessions.specs.Callers.{Callers, callers, AreNumberedFrom, made_by, MakesCall}
 
 -- ---- names
 
-same_name : (one other : List ℕ) → name_eq one other ≡ true → one ≡ other
+pub same_name : (one other : List ℕ) → name_eq one other ≡ true → one ≡ other
 same_name one other is = same_text one other (sym is)
 
 name_eq-refl-at : (b : Bool) (name : List ℕ) → name_eq name name ≡ b → name_eq name name ≡ true
@@ -158,11 +157,11 @@ first_session n names name found = rw found refl
 pub next_session : (n : List ℕ) (names : List (List ℕ)) (name : List ℕ) → name_eq name n ≡ false → session_of (n ∷ names) name ≡ suc (session_of names name)
 next_session n names name other = rw other (omega arith)
 
-made_first : (n : List ℕ) (names : List (List ℕ)) (p : Known) (passes : List Known) (name : List ℕ) → name_eq name n ≡ true
+pub made_first : (n : List ℕ) (names : List (List ℕ)) (p : Known) (passes : List Known) (name : List ℕ) → name_eq name n ≡ true
     → made_of (n ∷ names) (p ∷ passes) name ≡ p.made
 made_first n names p passes name found = ap (λ k. made_at (p ∷ passes) k) (first_session n names name found)
 
-made_next : (n : List ℕ) (names : List (List ℕ)) (p : Known) (passes : List Known) (name : List ℕ) → name_eq name n ≡ false
+pub made_next : (n : List ℕ) (names : List (List ℕ)) (p : Known) (passes : List Known) (name : List ℕ) → name_eq name n ≡ false
     → made_of (n ∷ names) (p ∷ passes) name ≡ made_of names passes name
 made_next n names p passes name other = ap (λ k. made_at (p ∷ passes) k) (next_session n names name other)
 

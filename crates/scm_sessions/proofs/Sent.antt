@@ -1,6 +1,7 @@
 -- What is sent in parts is sent whole.
-use Rattle.std.proofs.Common.{◌≡◌, ℕ, ◌+◌, ◌-◌, List, [], ◌++◌, length, take, drop, refl, sym, ap, ◌∙◌, subst, Option, Bool, true, false, append_assoc, append-nil, take-append-drop, ◌<◌, ◌∷◌, get_or, flat_map}
+use Rattle.std.proofs.Common.{◌≡◌, ℕ, ◌+◌, ◌-◌, List, [], ◌++◌, length, take, drop, refl, sym, ap, ◌∙◌, subst, Option, Bool, true, false, append_assoc, append-nil, take-append-drop, ◌<◌, ◌∷◌, get_or, map, flat_map}
 use Rattle.std.proofs.lemmas.List.{take_rest, take_more, flat_map_more}
+use Rattle.std.proofs.lemmas.List.Folds.{flat_map-map}
 use Rattle.std.proofs.Math.Seq.{take-add}
 use Rattle.std.proofs.KnownBytes.{Appends-trans, Appends-kept, Keeps-trans}
 use Rattle.std.specs.Io.KnownBytes.{Appends, Keeps}
@@ -85,3 +86,10 @@ pub flat_map-take_more : {X : Type 0} (f : X → List ℕ) (xs : List X) (i : �
 flat_map-take_more f xs i x d within is =
     let more : take (i + 1) xs ≡ take i xs ++ x ∷ [] = take_more xs i d within ∙ ap (λ y. take i xs ++ y ∷ []) (sym is) in
     flat_map_more f [] (take i xs) x ∙ ap (flat_map f) (sym more)
+
+-- one more item of a list, of which something is read
+pub flat_map-map_take_more : {X Y : Type 0} (f : Y → List ℕ) (v : X → Y) (xs : List X) (i : ℕ) (x d : X) → i < length xs → x ≡ get_or xs i d
+    → flat_map f (map v (take i xs)) ++ f (v x) ≡ flat_map f (map v (take (i + 1) xs))
+flat_map-map_take_more f v xs i x d within is =
+    ap (λ (text : List ℕ). text ++ f (v x)) (flat_map-map f v (take i xs)) ∙ flat_map-take_more (λ y. f (v y)) xs i x d within is
+    ∙ sym (flat_map-map f v (take (i + 1) xs))

@@ -3,7 +3,7 @@ use Rattle.std.specs.Prelude.{ℕ, ◌≡◌, List, [], ◌∷◌, ◌++◌, if�
 use Rattle.std.specs.Option.{option_map}
 use Rattle.scm_book.specs.Calls.{CallData, ReplyData}
 use Rattle.scm_shared.specs.Passes.{Known}
-use Rattle.scm_sessions.specs.Asking.{Asked, nothing, bad, good}
+use Rattle.scm_sessions.specs.Asking.{Asked, good}
 use Rattle.scm_sessions.specs.SharedRuns.{FitsAsked, became_entry}
 
 -- the calls that a session with this pass made and that became entries, with their replies

@@ -13,6 +13,8 @@ pub mod Answering
 pub mod Callers
 pub mod SharedRuns
 pub mod Gathered
+pub mod Jobs
+pub mod EachRuns
 pub mod JournalText
 pub use Rattle.scm_sequences.specs.Refusals
 pub use Rattle.scm_cells.specs.Names

@@ -1,31 +1,115 @@
 //! The run of a script with a thread for each session.
-ghost use Rattle.std.specs.Prelude.{◌≡◌, true};
-ghost use Rattle.scm_book.specs.Calls.{reply_data};
-ghost use Rattle.scm_sessions.specs.Asking.{asked_data};
+ghost use Rattle.std.specs.Prelude.{◌≡◌, ◌↔◌, length, true, false, All, IfOk, IfErr, IsErrOf, IsTrue};
+ghost use Rattle.scm_book.specs.Journal.{IsLegalBook};
+ghost use Rattle.scm_sessions.specs.Ports.{inner_of, has_failed};
+ghost use Rattle.scm_sessions.specs.JournalText.{AreNamed};
 ghost use Rattle.scm_sessions.specs.Exchanges.{has_reply};
-ghost use Rattle.scm_sessions.specs.Gathered.{AnswersIn};
+ghost use Rattle.scm_sessions.specs.Jobs.{AllAnswered};
+ghost use Rattle.scm_sessions.specs.Groups.{GroupsWhole, GroupsWholeLines};
+ghost use Rattle.scm_sessions.specs.SharedRuns.{AllFit, IsSharedRun};
+ghost use Rattle.scm_sessions.specs.EachRuns.{RunsGroups, RunsGroupsWholeLines, RunsGroupsPart};
 
-use crate::asking::Asked;
-use scm_book::Reply;
-use scm_sequences::Refusal;
-use scm_shared::{BookNaming, Pass, SharedBook};
+use crate::group_answers::answer_beside_workers;
+use crate::group_ends::{gathered, room_for, write_groups};
+use crate::groups::{Group, Groups};
+use crate::jobs::{Job, jobs_of};
+use crate::reading::LineReader;
+use crate::{Ended, Port, RunFault};
+use scm_expand::Gate;
+use scm_results::Tally;
+use scm_shared::{BookNaming, BookToken, SharedBook};
+use std::alloc::Global;
+use std::io::{Read, Write};
 use std::sync::Wait;
+use std::thread::Threads;
 
-/// The reply to a line of a session with this pass. Where it has none its calls are refused.
-pub(crate) fn reply_to<B: BookNaming, T: Wait>(
-    rt: &T,
-    book: &SharedBook<B>,
-    pass: &mut Option<Pass<B>>,
-    asked: Asked,
-) -> Reply
-    requires { has_reply (asked_data asked) ≡ true }
-    ensures { AnswersIn pass.old (asked_data asked) (reply_data result) pass.new }
+/// The groups of the lines of a script, or of its whole lines before a read that failed. Fails where memory is refused.
+fn read_groups<R: Read>(alloc: Global, reader: &mut Port<R>) -> Result<Vec<Group>, RunFault>
+    requires { has_failed reader.old ≡ false }
+    ensures whole { IfOk result (λ groups. has_failed reader.new ≡ false →
+        GroupsWhole (R.remaining (inner_of reader.old)) (R.remaining (inner_of reader.new)) groups.items) }
+    ensures whole_lines { IfOk result (λ groups. has_failed reader.new ≡ true →
+        GroupsWholeLines (R.remaining (inner_of reader.old)) (R.remaining (inner_of reader.new)) groups.items) }
+    ensures fault { IfErr result (λ fault. fault ≡ RunFault.NoMemory) }
 {
-    match asked {
-        Asked::Nothing | Asked::Bad(_) => Reply::Refused(Refusal::BadLine),
-        Asked::Good { call, .. } => match pass {
-            Some(pass) => book.call(rt, pass, call),
-            None => Reply::Refused(Refusal::TooManySessions),
-        },
+    let mut lines = LineReader::new(alloc)?;
+    let mut groups = Groups::new(alloc);
+    match groups.read(&mut lines, reader) {
+        Ok(()) | Err(RunFault::ReadFailed) => Ok(groups.into_groups()),
+        Err(_) => Err(RunFault::NoMemory),
     }
+}
+
+/// Answers the lines of all groups beside workers, which end with them. Gives the tallies of workers and collector.
+fn answer_jobs<B: BookNaming + Send + Sync, G: Gate + Sync, T: Threads + Wait + Sync>(
+    rt: &T,
+    alloc: Global,
+    book: &SharedBook<B>,
+    jobs: &mut Vec<Job<B>>,
+    gate: &G,
+    workers: usize,
+) -> Vec<Tally<B>>
+    requires { All (λ group. All (λ asked. has_reply asked ≡ true) group.asked) jobs.old.items }
+    ensures answered { AllAnswered jobs.old.items jobs.new.items }
+    ensures each { length jobs.new.items ≡ length jobs.old.items }
+{
+    answer_beside_workers::<B, G, T>(rt, alloc, book, jobs.as_mut_slice(), gate, workers)
+}
+
+/// Runs a script over a new book with a thread for each session, while `workers` threads and a collector look for situations
+/// that questions will want. The script is read whole, and its lines are grouped by the names that they begin with, in the order
+/// in which they first come; lines without a name are a group too. The names with a call enter in this order, then the lines of
+/// each are answered in a thread of its own, and at the end the replies are written group by group.
+///
+/// Where a read fails, the whole lines before it are answered and their replies written. Ends as `run_with_workers` does. It
+/// fails with `NoMemory` before a line is answered alone; a line for which memory is refused later is answered so.
+pub fn run_each<
+    B: BookNaming + Send + Sync,
+    R: Read,
+    W: Write,
+    G: Gate + Sync,
+    T: Threads + Wait + Sync,
+>(
+    rt: &T,
+    alloc: Global,
+    token: BookToken,
+    reader: &mut Port<R>,
+    writer: &mut Port<W>,
+    gate: &G,
+    workers: usize,
+) -> Result<Ended, RunFault>
+    requires reads { has_failed reader.old ≡ false }
+    requires writes { has_failed writer.old ≡ false }
+    requires table { token.table.shared.table_id ≡ B.table }
+    requires made { (token.made.name ≡ B.made) × (token.made.parts ≡ B.seats) }
+    requires totals { (token.totals.taken.name ≡ B.taken) × (token.totals.delivered.name ≡ B.delivered) × (token.totals.taken.parts ≡ B.parts) }
+    ensures ok { IfOk result (λ ended. RunsGroups (R.remaining (inner_of reader.old)) (R.remaining (inner_of reader.new))
+        (W.contents (inner_of writer.old)) (W.contents (inner_of writer.new)) (IsSharedRun ended)) }
+    ensures named { IfOk result (λ ended. IsTrue ended.audit.agreed → AreNamed ended.names.items ended.audit.book.journal) }
+    ensures legal { IfOk result (λ ended. IsLegalBook ended.audit.book) }
+    ensures read_failed { IsErrOf result RunFault.ReadFailed →
+        RunsGroupsWholeLines (R.remaining (inner_of reader.old)) (R.remaining (inner_of reader.new))
+        (W.contents (inner_of writer.old)) (W.contents (inner_of writer.new)) AllFit }
+    ensures write_failed { IsErrOf result RunFault.WriteFailed →
+        RunsGroupsPart (R.remaining (inner_of reader.old)) (R.remaining (inner_of reader.new))
+        (W.contents (inner_of writer.old)) (W.contents (inner_of writer.new)) AllFit }
+    ensures reader_failed { IsErrOf result RunFault.ReadFailed ↔
+        ((has_failed reader.new ≡ true) × (has_failed writer.new ≡ false) × ¬ IsErrOf result RunFault.NoMemory) }
+    ensures writer_failed { IsErrOf result RunFault.WriteFailed ↔ (has_failed writer.new ≡ true) }
+    ensures no_memory { IsErrOf result RunFault.NoMemory → writer.new ≡ writer.old }
+{
+    let groups = read_groups(alloc, reader)?;
+    let book = SharedBook::<B>::new(alloc, token);
+    let mut jobs = jobs_of(rt, alloc, &book, groups)?;
+    let (mut names, passes) = room_for(alloc, jobs.len())?;
+    let tallies = answer_jobs::<B, G, T>(rt, alloc, &book, &mut jobs, gate, workers);
+    write_groups(writer, jobs.as_slice())?;
+    if reader.failed() {
+        return Err(RunFault::ReadFailed);
+    }
+    let passes = gathered(jobs, &mut names, passes);
+    Ok(Ended {
+        audit: book.audit(passes, tallies),
+        names,
+    })
 }

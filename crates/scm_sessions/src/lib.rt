@@ -12,7 +12,10 @@ mod edges;
 mod ended;
 mod fault;
 mod findings;
+mod group_answers;
+mod group_ends;
 mod groups;
+mod jobs;
 mod journal;
 mod port;
 mod reading;
@@ -28,6 +31,7 @@ mod words;
 mod writing;
 
 pub use calls::read_line;
+pub use each::run_each;
 pub use ended::Ended;
 pub use fault::RunFault;
 pub use findings::{Findings, RefusedLine};

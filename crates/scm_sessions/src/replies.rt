@@ -83,7 +83,7 @@ impl<W: Write> Port<W> {
     }
 
     /// Puts the line of a reply.
-    fn put_reply_line(&mut self, name: Option<&Name>, reply: &Reply)
+    pub(crate) fn put_reply_line(&mut self, name: Option<&Name>, reply: &Reply)
         ensures bytes { Sends (W.contents (inner_of self.old)) (has_failed self.old)
             (W.contents (inner_of self.new)) (has_failed self.new)
             (reply_line (option_copied name.entry) (reply_data reply.now)) }

@@ -1,0 +1,170 @@
+-- What a run in groups did to a script and to a writer.
+use Rattle.std.proofs.Common.{◌≡◌, ◌⊎◌, ℕ, suc, ◌+◌, List, [], ◌∷◌, ◌++◌, length, take, drop, refl, inl, inr, sym, ap, ap₂, ◌∙◌, subst, Option, Bool, true, false, flat_map, All, IsTrue}
+use Rattle.std.proofs.Math.Seq.{take-append_seam}
+use Rattle.std.proofs.lemmas.List.Elements.{All-nil, All-cons}
+use Rattle.std.specs.Io.KnownBytes.{Consumes, Appends, IsAtEnd}
+use Rattle.scm_book.specs.Calls.{EntryData}
+use Rattle.scm_shared.specs.Passes.{Known}
+use Rattle.scm_shared.specs.Audits.{Agree}
+use Rattle.scm_sessions.specs.declared.ended.Ended.{Ended}
+use Rattle.scm_sessions.specs.Lines.{Line, lines_of, whole_lines_of}
+use Rattle.scm_sessions.specs.Asking.{Asked}
+use Rattle.scm_sessions.specs.Exchanges.{Exchange, has_reply, asked_in, asked_of}
+use Rattle.scm_sessions.specs.Ports.{AppendsPart}
+use Rattle.scm_sessions.specs.Callers.{callers, AreNumberedFrom, made_by}
+use Rattle.scm_sessions.specs.SharedRuns.{AllFit, IsSharedRun}
+use Rattle.scm_sessions.specs.JournalText.{AreNamed}
+use Rattle.scm_sessions.specs.Groups.{Group, groups_of, grouped, GroupsWhole, GroupsWholeLines}
+use Rattle.scm_sessions.specs.Jobs.{Job, AreBegun, AllAnswered, jobs_text, entered_names, entered_passes}
+use Rattle.scm_sessions.specs.EachRuns.{RunsGroups, RunsGroupsWholeLines, RunsGroupsPart}
+use Rattle.scm_sessions.proofs.Sharing.{agreed_by, covered_named}
+use Rattle.scm_sessions.proofs.GroupNames.{AreOf, AreApart, groups_apart}
+use Rattle.scm_sessions.proofs.GroupAnswers.{HasAnswered, HasAnswered-from}
+
+-- ---- what was read
+
+-- a script was read, or a part of it, and these are the groups of its lines
+pub record ReadGroups (script left : Option (List ℕ)) (groups : List Group) : Type 0 where
+  pub bytes : List ℕ
+  pub lines : List Line
+  pub consumed : Consumes script left bytes
+  pub lines_are : (lines ≡ whole_lines_of bytes) ⊎ (IsAtEnd left × (lines ≡ lines_of bytes))
+  pub are : groups ≡ groups_of (asked_in lines)
+
+pub ReadGroups-whole : {script left : Option (List ℕ)} {groups : List Group} → GroupsWhole script left groups → ReadGroups script left groups
+ReadGroups-whole read = record {
+  bytes = read.bytes;
+  lines = lines_of read.bytes;
+  consumed = read.consumed;
+  lines_are = inr (read.ended, refl);
+  are = read.grouped;
+}
+
+pub ReadGroups-lines : {script left : Option (List ℕ)} {groups : List Group} → GroupsWholeLines script left groups → ReadGroups script left groups
+ReadGroups-lines read = record {
+  bytes = read.bytes;
+  lines = whole_lines_of read.bytes;
+  consumed = read.consumed;
+  lines_are = inl refl;
+  are = read.grouped;
+}
+
+-- whether a read failed or not
+pub ReadGroups-read : {script left : Option (List ℕ)} {groups : List Group} (failed : Bool) → (failed ≡ false → GroupsWhole script left groups)
+    → (failed ≡ true → GroupsWholeLines script left groups) → ReadGroups script left groups
+ReadGroups-read false whole part = ReadGroups-whole (whole refl)
+ReadGroups-read true whole part = ReadGroups-lines (part refl)
+
+-- ---- what is asked of the jobs has a reply
+
+All-of : (name : Option (List ℕ)) (asked : List Asked) → AreOf name asked → All (λ a. has_reply a ≡ true) asked
+All-of name [] are = All-nil (λ (a : Asked). has_reply a ≡ true)
+All-of name (a ∷ asked) are = All-cons (λ (a : Asked). has_reply a ≡ true) a asked are.0 (All-of name asked are.2)
+
+-- each line of this job has a reply
+abbrev pub HasReplies : Job → Type 0
+HasReplies job = All (λ asked. has_reply asked ≡ true) job.asked
+
+All-begun : (number : ℕ) (groups : List Group) (jobs : List Job) → AreApart groups → AreBegun number groups jobs → All HasReplies jobs
+All-begun number [] [] apart begin = All-nil HasReplies
+All-begun number [] (job ∷ jobs) apart begin = absurd begin
+All-begun number (g ∷ groups) [] apart begin = absurd begin
+All-begun number (g ∷ groups) (job ∷ jobs) apart (inl begin) =
+    let asked : job.asked ≡ g.asked = ap (λ (j : Job). j.asked) begin.0 in
+    All-cons HasReplies job jobs (subst (All (λ (a : Asked). has_reply a ≡ true)) (sym asked) (All-of g.name g.asked apart.0))
+    (All-begun number groups jobs apart.2 begin.1)
+All-begun number (g ∷ groups) (job ∷ jobs) apart (inr begin) =
+    let asked : job.asked ≡ g.asked = ap (λ (j : Job). j.asked) begin.0.begins_so in
+    All-cons HasReplies job jobs (subst (All (λ (a : Asked). has_reply a ≡ true)) (sym asked) (All-of g.name g.asked apart.0))
+    (All-begun (number + 1) groups jobs apart.2 begin.1)
+
+apart_of : {script left : Option (List ℕ)} {groups : List Group} → ReadGroups script left groups → AreApart groups
+apart_of read = subst AreApart (sym read.are) (groups_apart read.lines)
+
+pub begun_reply : {script left : Option (List ℕ)} {groups : List Group} (begins : List Job) → ReadGroups script left groups → AreBegun 0 groups begins
+    → All HasReplies begins
+begun_reply {script} {left} {groups} begins read begin = All-begun 0 groups begins (apart_of read) begin
+
+-- ---- what was answered and written
+
+asked_are : {groups : List Group} (lines : List Line) (exchanges : List Exchange) → groups ≡ groups_of (asked_in lines)
+    → asked_of exchanges ≡ flat_map (λ group. group.asked) groups → asked_of exchanges ≡ grouped (asked_in lines)
+asked_are lines exchanges are asked = asked ∙ ap (λ (gs : List Group). flat_map (λ group. group.asked) gs) are
+
+module _ {script left : Option (List ℕ)} {groups : List Group} (begins jobs : List Job) (begin : AreBegun 0 groups begins) (answered : AllAnswered begins jobs) where
+  has : ReadGroups script left groups → HasAnswered 0 groups jobs
+  has read = HasAnswered-from 0 groups begins jobs (apart_of read) begin answered
+
+  -- the script was read to its end, and the replies were written
+  pub RunsGroups-shared : {written after : Option (List ℕ)} (ended : Ended) (passes : List Known) → GroupsWhole script left groups
+      → Appends written after (jobs_text jobs) → ended.names.items ≡ entered_names jobs → passes ≡ entered_passes jobs
+      → (IsTrue ended.audit.agreed → Agree passes ended.audit.book.journal) → RunsGroups script left written after (IsSharedRun ended)
+  RunsGroups-shared {written} {after} ended passes whole wrote names are agrees =
+      let had = has (ReadGroups-whole whole) in
+      let numbered : AreNumberedFrom 0 passes = subst (AreNumberedFrom 0) (sym are) had.numbered in
+      record {
+        bytes = whole.bytes;
+        exchanges = had.exchanges;
+        consumed = whole.consumed;
+        ended = whole.ended;
+        asked = asked_are (lines_of whole.bytes) had.exchanges whole.grouped had.asked;
+        appended = subst (Appends written after) had.text wrote;
+        run = record {
+          fit = had.fit;
+          entries = λ agreed name.
+              had.made name ∙ sym (ap₂ (λ (ns : List (List ℕ)) (ps : List Known). made_by (callers ns ps) name) names are)
+              ∙ agreed_by ended.names.items passes ended.audit.book.journal name numbered (agrees agreed);
+        };
+      }
+
+  -- each entry is of a session that has a name
+  pub groups_named : (names : List (List ℕ)) (passes : List Known) (journal : List EntryData) → ReadGroups script left groups
+      → names ≡ entered_names jobs → passes ≡ entered_passes jobs → Agree passes journal → AreNamed names journal
+  groups_named names passes journal read is_names are agree =
+      let had = has read in
+      let each : length passes ≡ length names = ap length are ∙ had.each ∙ ap length (sym is_names) in
+      covered_named names passes journal each (subst (AreNumberedFrom 0) (sym are) had.numbered) agree.0
+
+  -- a read failed, and the replies to the lines before it were written
+  pub RunsGroupsWholeLines-fit : {written after : Option (List ℕ)} → GroupsWholeLines script left groups → Appends written after (jobs_text jobs)
+      → RunsGroupsWholeLines script left written after AllFit
+  RunsGroupsWholeLines-fit {written} {after} part wrote =
+      let had = has (ReadGroups-lines part) in
+      record {
+        bytes = part.bytes;
+        exchanges = had.exchanges;
+        consumed = part.consumed;
+        asked = asked_are (whole_lines_of part.bytes) had.exchanges part.grouped had.asked;
+        appended = subst (Appends written after) had.text wrote;
+        run = had.fit;
+      }
+
+  -- a write failed
+  pub RunsGroupsPart-fit : {written after : Option (List ℕ)} → ReadGroups script left groups → AppendsPart written after (jobs_text jobs)
+      → RunsGroupsPart script left written after AllFit
+  RunsGroupsPart-fit {written} {after} read wrote =
+      let had = has read in
+      record {
+        bytes = read.bytes;
+        lines = read.lines;
+        exchanges = had.exchanges;
+        consumed = read.consumed;
+        lines_are = read.lines_are;
+        asked = asked_are read.lines had.exchanges read.are had.asked;
+        appended = subst (AppendsPart written after) had.text wrote;
+        run = had.fit;
+      }
+
+-- ---- a list of jobs that was answered in place
+
+pub answered_length : (olds news : List Job) → AllAnswered olds news → length news ≡ length olds
+answered_length [] [] answered = refl
+answered_length [] (new ∷ news) answered = absurd answered
+answered_length (old ∷ olds) [] answered = absurd answered
+answered_length (old ∷ olds) (new ∷ news) answered = ap suc (answered_length olds news answered.1)
+
+pub answered_back : (count : ℕ) (items olds news : List Job) → length olds ≡ count → AllAnswered olds news
+    → take count (news ++ drop (length news) items) ≡ news
+answered_back count items olds news is answered =
+    ap (λ (n : ℕ). take n (news ++ drop (length news) items)) (sym (answered_length olds news answered ∙ is))
+    ∙ take-append_seam news (drop (length news) items)

@@ -1,0 +1,39 @@
+-- A script run with a thread for each session: its lines are answered in groups by the names that they begin with. This
+-- project's profile.
+use Rattle.std.specs.Prelude.{ℕ, ◌≡◌, ◌⊎◌, List, Option}
+use Rattle.std.specs.Io.KnownBytes.{Consumes, Appends, IsAtEnd}
+use Rattle.scm_sessions.specs.Lines.{Line, lines_of, whole_lines_of}
+use Rattle.scm_sessions.specs.Exchanges.{Exchange, asked_in, asked_of, replies_text}
+use Rattle.scm_sessions.specs.Ports.{AppendsPart}
+use Rattle.scm_sessions.specs.Groups.{grouped}
+
+-- the whole script was read, each of its lines that has a reply has an exchange, group after group, and the replies were written
+pub record RunsGroups (script left written after : Option (List ℕ)) (Run : List Exchange → Type 0) : Type 0 where
+  pub bytes : List ℕ
+  pub exchanges : List Exchange
+  pub consumed : Consumes script left bytes
+  pub ended : IsAtEnd left
+  pub asked : asked_of exchanges ≡ grouped (asked_in (lines_of bytes))
+  pub appended : Appends written after (replies_text exchanges)
+  pub run : Run exchanges
+
+-- a part of the script was read, and so it is with its whole lines
+pub record RunsGroupsWholeLines (script left written after : Option (List ℕ)) (Run : List Exchange → Type 0) : Type 0 where
+  pub bytes : List ℕ
+  pub exchanges : List Exchange
+  pub consumed : Consumes script left bytes
+  pub asked : asked_of exchanges ≡ grouped (asked_in (whole_lines_of bytes))
+  pub appended : Appends written after (replies_text exchanges)
+  pub run : Run exchanges
+
+-- the script was read, or a part of it, and a beginning of the replies was written
+pub record RunsGroupsPart (script left written after : Option (List ℕ)) (Run : List Exchange → Type 0) : Type 0 where
+  pub bytes : List ℕ
+  pub lines : List Line
+  pub exchanges : List Exchange
+  pub consumed : Consumes script left bytes
+  -- its whole lines, or where it ended all of them
+  pub lines_are : (lines ≡ whole_lines_of bytes) ⊎ (IsAtEnd left × (lines ≡ lines_of bytes))
+  pub asked : asked_of exchanges ≡ grouped (asked_in lines)
+  pub appended : AppendsPart written after (replies_text exchanges)
+  pub run : Run exchanges

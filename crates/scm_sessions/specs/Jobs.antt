@@ -1,0 +1,100 @@
+-- The sessions of a run in groups: each group of lines is a job, with the pass of its session, if it has one. This project's
+-- profile.
+use Rattle.std.specs.Prelude.{ℕ, ◌≡◌, ◌⊎◌, ◌+◌, ⊤, List, [], ◌∷◌, ◌++◌, map, flat_map, Bool, true, false, Option, None, Some}
+use Rattle.std.specs.List.{list_any}
+use Rattle.scm_book.specs.Calls.{CallData, ReplyData}
+use Rattle.scm_shared.specs.Passes.{Known, newcomer}
+use Rattle.scm_sessions.specs.Asking.{Asked, good}
+use Rattle.scm_sessions.specs.Exchanges.{Exchange, asked_of}
+use Rattle.scm_sessions.specs.Replies.{reply_line}
+use Rattle.scm_sessions.specs.SharedRuns.{AllFit}
+use Rattle.scm_sessions.specs.Groups.{Group}
+use Rattle.scm_sessions.specs.Gathered.{made_in, number_in, entry_for}
+
+pub record Job : Type 0 where
+  -- the name of the group, None for lines without one
+  pub name : Option (List ℕ)
+  -- what its lines ask that have no reply yet, in order
+  pub asked : List Asked
+  -- the pass of its session, where that entered
+  pub pass : Option Known
+  -- the replies to its lines, in order
+  pub replies : List ReplyData
+
+abbrev pub job : Option (List ℕ) → List Asked → Option Known → List ReplyData → Job
+job name asked pass replies = record { name = name; asked = asked; pass = pass; replies = replies }
+
+-- ---- how jobs begin
+
+abbrev pub is_call : Asked → Bool
+is_call (good name call) = true
+is_call asked = false
+
+abbrev pub begun : Group → Option Known → Job
+begun group pass = job group.name group.asked pass []
+
+-- the group has a call, and entered with this number
+pub record Enters (number : ℕ) (group : Group) (begins : Job) : Type 0 where
+  pub calls : list_any is_call group.asked ≡ true
+  pub begins_so : begins ≡ begun group (Some (newcomer number))
+
+-- these are the jobs of the groups: each has no pass, or the next one from this number on
+abbrev pub AreBegun : ℕ → List Group → List Job → Type 0
+AreBegun number [] [] = ⊤
+AreBegun number (group ∷ groups) (first ∷ jobs) =
+    ((first ≡ begun group None) × AreBegun number groups jobs) ⊎ (Enters number group first × AreBegun (number + 1) groups jobs)
+AreBegun number groups jobs = ⊥
+
+-- ---- how jobs go on
+
+abbrev pub replies_in : List Exchange → List ReplyData
+replies_in exchanges = map (λ e. e.reply) exchanges
+
+-- the calls of these exchanges that became entries, with their replies
+abbrev pub entries_for : List Exchange → List (CallData × ReplyData)
+entries_for exchanges = flat_map (λ e. entry_for e.asked e.reply) exchanges
+
+-- the next lines of a job were answered, as these exchanges say
+pub record Answered (old new : Job) : Type 0 where
+  pub exchanges : List Exchange
+  pub name : new.name ≡ old.name
+  pub asked : old.asked ≡ asked_of exchanges ++ new.asked
+  pub replies : new.replies ≡ old.replies ++ replies_in exchanges
+  pub fit : AllFit exchanges
+  pub made : made_in new.pass ≡ made_in old.pass ++ entries_for exchanges
+  pub number : number_in new.pass ≡ number_in old.pass
+
+-- all lines of a job were answered
+pub record AnsweredWhole (old new : Job) : Type 0 where
+  pub answered : Answered old new
+  pub ended : new.asked ≡ []
+
+-- all lines of these jobs were answered
+abbrev pub AllAnswered : List Job → List Job → Type 0
+AllAnswered [] [] = ⊤
+AllAnswered (old ∷ olds) (new ∷ news) = AnsweredWhole old new × AllAnswered olds news
+AllAnswered olds news = ⊥
+
+-- ---- what is written of jobs, and what they give to the audit
+
+-- the replies of a job, each in its line
+abbrev pub job_text : Job → List ℕ
+job_text job = flat_map (λ reply. reply_line job.name reply) job.replies
+
+abbrev pub jobs_text : List Job → List ℕ
+jobs_text jobs = flat_map job_text jobs
+
+-- the names with a pass, and their passes, one job after the other
+abbrev pub names_in : Option (List ℕ) → Option Known → List (List ℕ)
+names_in (Some name) (Some pass) = name ∷ []
+names_in name pass = []
+
+abbrev pub passes_in : Option (List ℕ) → Option Known → List Known
+passes_in (Some name) (Some pass) = pass ∷ []
+passes_in name pass = []
+
+abbrev pub entered_names : List Job → List (List ℕ)
+entered_names jobs = flat_map (λ job. names_in job.name job.pass) jobs
+
+abbrev pub entered_passes : List Job → List Known
+entered_passes jobs = flat_map (λ job. passes_in job.name job.pass) jobs
