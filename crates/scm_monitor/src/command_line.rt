@@ -2,7 +2,7 @@
 ghost use Rattle.std.specs.Prelude.{◌≡◌, ◌⊎◌, ◌≤◌, false, None, Some, map, IfOk, IfErr, OnErr, IsErr, IsErrAnd};
 ghost use Rattle.clap.specs.Words.{app_of, kind_of, rule_of};
 ghost use Rattle.scm_monitor.specs.declared.settings.TheConstants.{MOST_WORKERS};
-ghost use Rattle.scm_monitor.specs.CommandLine.{check_rule, command_line, each_rule, help_rule, journal_rule, options_of, workers_rule, ComesFirst, IsHelp, IsVersion};
+ghost use Rattle.scm_monitor.specs.CommandLine.{check_rule, command_line, help_rule, journal_rule, options_of, workers_rule, ComesFirst, IsHelp, IsVersion};
 
 use crate::settings::Options;
 use crate::switches::read_options;
@@ -43,9 +43,9 @@ A line that begins with # is a comment. docs/LANGUAGE.md describes the language,
 Statuses: 0 the script ended, 1 reading or writing failed, 2 the command line is refused, 3 no memory; 4, 5 and 6 as
 --check has them; 7 the journal isn't what the sessions were answered, which is an error of the monitor.";
 
-/// What is said of words that clap would take and the program doesn't, as `--workers=2` and `--each --check`.
-const NOT_TAKEN: &str =
-    "the number of workers is a word of its own, of digits alone: --workers N; --each and --check don't go together";
+/// What is said of words that clap would take and the program doesn't, as `--workers=2`.
+const NUMBER_APART: &str =
+    "the number of workers is a word of its own, of digits alone: --workers N";
 
 /// The option for the number of workers, as it is described to clap.
 fn workers_option<'a>(alloc: Global) -> Arg<'a>
@@ -59,19 +59,6 @@ fn workers_option<'a>(alloc: Global) -> Arg<'a>
         .value_parser(ValueParser::Unsigned(0, 16))
         .help(
             "Run N workers beside the script, 0 to 16, which look for situations ahead of questions; else 2",
-        )
-}
-
-/// The option for a thread for each session.
-fn each_option<'a>(alloc: Global) -> Arg<'a>
-    ensures rule { rule_of result ≡ each_rule }
-    ensures local { result.global ≡ false }
-{
-    Arg::new(alloc, "each")
-        .long("each")
-        .action(ArgAction::SetTrue)
-        .help(
-            "Read the script whole, and run the lines of each session in a thread of their own; replies come in groups",
         )
 }
 
@@ -124,7 +111,6 @@ fn command<'a>(alloc: Global) -> Result<Command<'a>, Error>
             .about(ABOUT)
             .after_help(CALLS)
             .arg(workers_option(alloc))?
-            .arg(each_option(alloc))?
             .arg(check_option(alloc))?
             .arg(journal_option(alloc))?
             .arg(help_option(alloc))?,
@@ -141,7 +127,7 @@ fn refuse<'a>(alloc: Global, words: &'a [&'a str]) -> Result<Options, Error>
 {
     let mut command = command(alloc)?;
     command.try_get_matches_from_mut(words)?;
-    Err(command.error(ErrorKind::InvalidValue, NOT_TAKEN)?)
+    Err(command.error(ErrorKind::InvalidValue, NUMBER_APART)?)
 }
 
 /// Reads the words after the program's name: the options that they ask for, where each word is taken. `--help` and

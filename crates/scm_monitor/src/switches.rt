@@ -12,7 +12,6 @@ use scm_cells::read_count;
 #[derive(Clone, Copy, Debug, PartialEq, Eq)]
 pub struct Asked {
     workers: Option<u8>,
-    each: bool,
     check: bool,
     journal: bool,
 }
@@ -43,7 +42,6 @@ impl Asked {
     {
         Asked {
             workers: None,
-            each: false,
             check: false,
             journal: false,
         }
@@ -64,15 +62,12 @@ impl Asked {
         })
     }
 
-    /// What this word asks for too; `None` where it asks for nothing, was there before, or doesn't go with what was asked for.
+    /// What this word asks for too; `None` where it asks for nothing, or was there before.
     fn with_flag(self, word: &str) -> Option<Asked>
         ensures with { result ≡ with_flag self word.now }
         ensures kept { IfSome result (λ asked. asked.workers ≡ self.workers) }
     {
-        if is_word(word, "--each") && !self.each && !self.check {
-            return Some(Asked { each: true, ..self });
-        }
-        if is_word(word, "--check") && !self.check && !self.each {
+        if is_word(word, "--check") && !self.check {
             return Some(Asked {
                 check: true,
                 ..self
@@ -104,7 +99,6 @@ impl Asked {
     {
         Options {
             workers: self.workers.unwrap_or(DEFAULT_WORKERS),
-            each: self.each,
             check: self.check,
             journal: self.journal,
         }
