@@ -39,6 +39,8 @@ mod numbers;
 #[cfg(test)]
 mod orders;
 #[cfg(test)]
+mod packing;
+#[cfg(test)]
 mod pile;
 #[cfg(test)]
 mod proposals;
