@@ -1,5 +1,5 @@
 -- Which traces have something to hand out, and what is taken of their sets.
-use Rattle.std.proofs.Common.{◌≡◌, ℕ, ◌<◌, ◌≤◌, List, Option, Some, None, Result, Ok, Err, IfSome, IsSomeAnd, IfOk, OnErr, MatchResult, length, slice_get, inr, refl, sym, ap, ◌∙◌, subst, arith}
+use Rattle.std.proofs.Common.{◌≡◌, true, ℕ, ◌<◌, ◌≤◌, List, Option, Some, None, Result, Ok, Err, IfSome, IsSomeAnd, IfOk, OnErr, MatchOption, MatchResult, ◌↔◌, false, is_some, length, slice_get, inr, refl, sym, ap, ◌∙◌, subst, arith}
 use Rattle.std.proofs.lemmas.Map.Entries.{place_from_lookup}
 use Rattle.std.proofs.lemmas.Option.{slice_get_within}
 use Rattle.std.proofs.lemmas.Map.Steps.{set_value_same}
@@ -12,7 +12,7 @@ use Rattle.scm_reach.specs.Handing.{Hands}
 use Rattle.scm_reach.specs.Kept.{Kept}
 use Rattle.scm_book.proofs.Entries.{trace_named-lookup, set_named-lookup}
 use Rattle.scm_book.specs.Machine.{Machine, TraceState, trace_named}
-use Rattle.scm_book.specs.Sets.{KeptTrace, machine_in, sets_in, set_named}
+use Rattle.scm_book.specs.Sets.{KeptTrace, InKept, machine_in, sets_in, set_named}
 use Rattle.scm_book.specs.Workers.{HoldsOfNone, ComesFirst, Takes}
 
 -- ---- the search for a trace
@@ -36,6 +36,20 @@ holds_of_none Holds traces n all none name state set there found holds = by (loo
       let same_state : Some state ≡ Some k.state = sym there ∙ trace_named-lookup traces traces refl name (Some k) is in
       let same_set : Some set ≡ Some k.set = sym found ∙ set_named-lookup traces traces refl name (Some k) is in
       refuses (subst (λ s. Holds s k.set) (ap (λ o. option_map_or (λ s. s) o state) same_state) (subst (λ s. Holds state s) (ap (λ o. option_map_or (λ s. s) o set) same_set) holds))
+
+-- where it holds of the trace of a name, it doesn't hold of none
+pub holds_of_some : (Holds : TraceState → Kept → Type 0) (traces : List (List ℕ × KeptTrace)) (name : List ℕ) → InKept traces name Holds → HoldsOfNone Holds (machine_in traces) (sets_in traces) → ⊥
+holds_of_some Holds traces name holds none = by (lookup (name_eq name) traces) refl holds where
+  by : (o : Option KeptTrace) → o ≡ lookup (name_eq name) traces → IsSomeAnd o (λ k. Holds k.state k.set) → ⊥
+  by None is nothing = absurd nothing
+  by (Some k) is it = none name k.state k.set (trace_named-lookup traces traces refl name (Some k) is) (set_named-lookup traces traces refl name (Some k) is) it
+
+-- a search for a trace of which it holds finds none exactly where it holds of none
+pub finds_none : (Holds : TraceState → Kept → Type 0) (traces : List (List ℕ × KeptTrace)) (found : Option (List ℕ))
+    → MatchOption found (HoldsOfNone Holds (machine_in traces) (sets_in traces)) (λ name. InKept traces name Holds)
+    → (is_some found ≡ false) ↔ HoldsOfNone Holds (machine_in traces) (sets_in traces)
+finds_none Holds traces None says = ((λ no. says), (λ none. refl))
+finds_none Holds traces (Some name) says = ((λ no. let absurd : true ≡ false = no in cc), (λ none. absurd (holds_of_some Holds traces name says none)))
 
 -- what holds of the trace that a look-up finds, said of the trace
 pub holds_of_found : (Holds : TraceState → Kept → Type 0) (inside traces : List (List ℕ × KeptTrace)) (name : List ℕ) (k : KeptTrace) → inside ≡ traces → Some k ≡ lookup (name_eq name) inside

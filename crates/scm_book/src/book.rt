@@ -5,7 +5,7 @@ ghost use Rattle.scm_sequences.specs.declared.refusal.Refusal.TheVariants.{BadLi
 ghost use Rattle.scm_book.specs.Machine.{empty_machine};
 ghost use Rattle.scm_book.specs.Sets.{HasRoom, HasRoomFor, HoldsFor, LeavesSets, SearchesSet};
 ghost use Rattle.scm_results.specs.Totals.{capped, none_counted};
-ghost use Rattle.scm_book.specs.Workers.{IsTaking, IsDelivery};
+ghost use Rattle.scm_book.specs.Workers.{IsTaking, IsDelivery, OffersNothingNew};
 ghost use Rattle.scm_book.specs.Changes.{tells_of_change};
 ghost use Rattle.scm_book.specs.Journal.{count_of as count_in, GivesCopies, IsCall, IsLegalBook};
 
@@ -115,6 +115,13 @@ impl Book {
         let tasks = self.traces.take(n)?;
         self.results.take(tasks.len());
         Ok(tasks)
+    }
+
+    /// Whether a trace has a next operation that is still to be looked at and wasn't handed out, and room in its budget.
+    pub fn has_new_tasks(&self) -> bool
+        ensures { (result ≡ false) ↔ OffersNothingNew self.now.machine self.now.sets }
+    {
+        self.traces.has_new_tasks()
     }
 
     /// Takes outcomes back, whatever they are: late, repeated, of a trace that was returned, closed or opened again since.

@@ -30,6 +30,10 @@ impl<B: Naming> TaskSource<B> for Empty<B> {
         self.totals.lock(rt).tally()
     }
 
+    fn has_new<R: Wait>(&self, _rt: &R) -> bool {
+        false
+    }
+
     fn take<R: Wait>(
         &self,
         _rt: &R,

@@ -1,5 +1,5 @@
 //! What workers take and deliver.
-ghost use Rattle.std.specs.Prelude.{◌≡◌, MatchOption, MatchResult};
+ghost use Rattle.std.specs.Prelude.{◌≡◌, ◌↔◌, false, MatchOption, MatchResult};
 ghost use Rattle.scm_book.specs.Sets.{machine_in, sets_in, InKept};
 ghost use Rattle.scm_book.specs.Workers.{Offers, OffersNew, OffersNothing, OffersNothingNew, ComesFirst, Takes, Meets, Delivers};
 
@@ -52,6 +52,13 @@ impl Traces {
             }
         }
         None
+    }
+
+    /// Whether a trace has operations to be looked at that weren't handed out, and room in its budget.
+    pub(crate) fn has_new_tasks(&self) -> bool
+        ensures { (result ≡ false) ↔ OffersNothingNew (machine_in self.now) (sets_in self.now) }
+    {
+        self.first_new().is_some()
     }
 
     /// The first trace with operations to be looked at, and room in its budget.
