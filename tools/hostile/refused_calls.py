@@ -1,4 +1,4 @@
-"""Single calls of which each allocation is refused in turn: the tests of scm_calls that tell which call was refused.
+"""Single calls of which each allocation is refused in turn: the tests that tell which call was refused.
 
 A test that was refused what it needs for itself ends and says that it is memory. Every other end but the good one is wrong,
 and so is each that comes after a call told that it was refused: the same call had the memory then."""
@@ -9,7 +9,7 @@ from concurrent.futures import ThreadPoolExecutor
 from refused_scripts import IN_VAIN, counts
 from unproved import processors
 
-TESTS = ("refused::", "refused_books::")
+TESTS = ("refused::", "refused_books::", "refused_lines::")
 NO_CALL, PREPARING = "no call", "a test's own preparing"
 WANTS_MEMORY = re.compile(rb"memory|NoMemory|AllocError|AllocFailed")
 
@@ -51,11 +51,12 @@ def tests_of(program):
     return [name for name in names if name.startswith(TESTS)]
 
 
-def refuse_all(program):
+def refuse_all(programs):
     """Whether nothing was wrong. Prints how many allocations were refused in which call."""
-    shown, made, wrong, tests = collections.Counter(), 0, [], tests_of(program)
+    shown, made, wrong = collections.Counter(), 0, []
+    tests = [(program, test) for program in programs for test in tests_of(program)]
     with ThreadPoolExecutor(processors()) as pool:
-        for test in tests:
+        for program, test in tests:
             calls = Calls(program, test)
             made += calls.run(pool)
             shown += calls.shown

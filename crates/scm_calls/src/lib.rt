@@ -61,8 +61,6 @@ mod shared_words;
 #[cfg(test)]
 mod shared_workers;
 #[cfg(test)]
-mod storm;
-#[cfg(test)]
 mod tallies;
 #[cfg(test)]
 mod tasks;

@@ -1,7 +1,7 @@
 //! Scripts with a thread for each session.
 
 use scm_expand::FreeGate;
-use scm_sessions::{Port, run_each};
+use scm_sessions::{Ended, Port, RunFault, run_each};
 use scm_shared::BookToken;
 use std::alloc::Global;
 use std::marker::Brand;
@@ -9,13 +9,13 @@ use std::sync::Wait;
 use std::test::Fail;
 use std::thread::Threads;
 
-/// The replies to a script with a thread for each session beside so many workers, once the audit agreed.
-fn replies_to_each<T: Threads + Wait + Sync>(
+/// How a script with a thread for each session ended beside so many workers, and what was written.
+pub(crate) fn run_of<T: Threads + Wait + Sync>(
     rt: &T,
     alloc: Global,
     script: &[u8],
     workers: usize,
-) -> Result<Vec<u8>, Fail> {
+) -> Result<(Result<Ended, RunFault>, Vec<u8>), Fail> {
     let token = BookToken::new(alloc)?;
     let mut reader = Port::new(script);
     let mut writer = Port::new(Vec::new(alloc));
@@ -27,11 +27,23 @@ fn replies_to_each<T: Threads + Wait + Sync>(
         &mut writer,
         &FreeGate,
         workers,
-    )?;
-    if !ended.audit.agreed || !ended.audit.totals_agreed {
+    );
+    Ok((ended, writer.into_inner()))
+}
+
+/// The replies to a script with a thread for each session beside so many workers, once the audit agreed.
+pub(crate) fn replies_to_each<T: Threads + Wait + Sync>(
+    rt: &T,
+    alloc: Global,
+    script: &[u8],
+    workers: usize,
+) -> Result<Vec<u8>, Fail> {
+    let (ended, written) = run_of(rt, alloc, script, workers)?;
+    let audit = ended?.audit;
+    if !audit.agreed || !audit.totals_agreed {
         return Err(Fail::from("the audit agrees"));
     }
-    Ok(writer.into_inner())
+    Ok(written)
 }
 
 #[test]

@@ -1,5 +1,6 @@
 //! The evidence of verdicts, handed to the checkers of foreign schedules and refutations.
 
+use crate::replays::run_again;
 use scm_book::{Book, Call, Decl, Entry, Reply};
 use scm_cells::{Initial, Name, narrow};
 use scm_frontier::Situation;
@@ -51,11 +52,7 @@ pub(crate) fn check_evidence(rt: &impl Abort, alloc: Global, entries: &[Entry]) 
 
 // The book after these calls.
 fn book_after(rt: &impl Abort, alloc: Global, entries: &[Entry]) -> Book {
-    let mut book = Book::new(alloc);
-    for entry in entries {
-        let call = entry.call.copy().expect(rt, "there is memory");
-        let _same_reply = book.call(entry.session, call);
-    }
+    let (book, _) = run_again(alloc, entries).expect(rt, "there is memory");
     book
 }
 

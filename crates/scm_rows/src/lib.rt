@@ -48,6 +48,8 @@ mod refusals;
 #[cfg(test)]
 mod refutations;
 #[cfg(test)]
+mod replays;
+#[cfg(test)]
 mod reply_texts;
 #[cfg(test)]
 mod runs;
@@ -57,5 +59,9 @@ mod script;
 mod scripts;
 #[cfg(test)]
 mod serial;
+#[cfg(test)]
+mod storm;
+#[cfg(test)]
+mod storm_lines;
 #[cfg(test)]
 mod unset;

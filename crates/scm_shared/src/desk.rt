@@ -1,11 +1,12 @@
 //! What lies under the lock of a shared book.
-ghost use Rattle.std.specs.Prelude.{◌≡◌, ◌≢◌, ◌+◌, ◌<◌, ◌≤◌, [], true, IfErr, IfOk, IfSome, None, Some, MatchResult, vec_len};
+ghost use Rattle.std.specs.Prelude.{◌≡◌, ◌≢◌, ◌+◌, ◌<◌, ◌≤◌, ◌⊎◌, [], true, false, IfErr, IfOk, IfSome, None, Some, MatchResult, vec_len};
 ghost use Rattle.scm_sequences.specs.declared.refusal.Refusal.TheVariants.{BadLine, JournalFull, NoMemory as WithoutMemory, TooManySessions};
 ghost use Rattle.scm_sequences.specs.declared.limits.TheConstants.{MOST_SESSIONS};
 ghost use Rattle.scm_results.specs.Tallies.{nothing_counted};
 ghost use Rattle.scm_book.specs.Calls.{call_data, reply_data, refused};
-ghost use Rattle.scm_book.specs.Journal.{makes_entry};
+ghost use Rattle.scm_book.specs.Journal.{makes_entry, IsCall, IsUnchanged};
 ghost use Rattle.scm_book.specs.Workers.{IsTaking, IsDelivery};
+ghost use Rattle.scm_shared.specs.Desks.{IsRefusedRoom};
 ghost use Rattle.scm_shared.specs.Passes.{newcomer, Extended, SeenFull};
 ghost use Rattle.scm_shared.specs.Seats.{IsKeeper};
 
@@ -95,13 +96,16 @@ impl<B: BookNaming> Desk<B> {
         })
     }
 
-    /// Makes a call of the pass's session.
+    /// Makes a call of the pass's session. Where there is no room to keep it, the book isn't called.
     pub(crate) fn call(&mut self, hall: &Hall<B>, pass: &mut Pass<B>, call: Call) -> Reply
         ensures made { makes_entry (reply_data result) ≡ true → Extended pass.old (call_data call) (reply_data result) pass.new }
         ensures full { reply_data result ≡ refused JournalFull → SeenFull pass.old pass.new }
         ensures refused { reply_data result ≡ refused WithoutMemory → pass.new ≡ pass.old }
         ensures good { reply_data result ≢ refused BadLine }
         ensures sessions { reply_data result ≢ refused TooManySessions }
+        ensures book { IsRefusedRoom self.old.book (reply_data result) self.new.book
+            ⊎ IsCall self.old.book pass.old.number (call_data call) (reply_data result) self.new.book }
+        ensures unchanged { makes_entry (reply_data result) ≡ false → IsUnchanged self.old.book self.new.book }
     {
         if pass.kept.reserve(1).is_err() {
             return Reply::Refused(Refusal::NoMemory);

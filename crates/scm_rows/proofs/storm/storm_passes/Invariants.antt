@@ -1,4 +1,4 @@
-use Rattle.scm_calls.proofs.storm.storm_passes.Given as goal
+use Rattle.scm_rows.proofs.storm.storm_passes.Given as goal
 
 abbrev pub ghosts-storm-B-BookNaming : goal.ghosts-storm-B-BookNaming
 ghosts-storm-B-BookNaming g a = record { table = a.token.table.shared.table_id; made = a.token.made.name; seats = a.token.made.parts }
