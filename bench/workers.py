@@ -15,6 +15,7 @@ CLOSED = 5  # writers of a trace that workers can close: 100,000 situations
 REPORTS = 400_000
 SILENCE = 10.0
 REPEATS = 5
+SESSIONS = 8
 TICKS = os.sysconf("SC_CLK_TCK")
 
 
@@ -145,6 +146,35 @@ def measure_end(program):
     print(f"\na script of one line, in the middle of 40 runs: {shown} workers")
 
 
+def questions_of_sessions():
+    """A script of sessions that take turns, each with questions on a trace of its own that no schedule decides."""
+    scripts = []
+    for number in range(SESSIONS):
+        trace = f"t{number}"
+        lines = [*forbidden(trace, CLOSED, BUDGET), f"a ask {trace}", f"a do {trace} 0 lw c1 0", f"a ask {trace}"]
+        scripts.append([f"s{number}{line[1:]}\n" for line in lines])
+    return "".join(line for turn in zip(*scripts) for line in turn).encode()
+
+
+def seconds_of_sessions(program, script, options):
+    begin = time.perf_counter()
+    ended = subprocess.run([program, "--workers", "0", *options], input=script, capture_output=True, check=True)
+    seconds = time.perf_counter() - begin
+    expect(ended.stdout.count(b" inconsistent\n") == 2 * SESSIONS, ended.stdout[-200:])
+    return seconds
+
+
+def measure_sessions(program):
+    script = questions_of_sessions()
+    times = {(): [], ("--each",): []}
+    for _ in range(REPEATS):
+        for options, found in times.items():
+            found.append(seconds_of_sessions(program, script, options))
+    in_order, apart = (min(found) for found in times.values())
+    print(f"\n{SESSIONS} sessions, each with questions on a trace of its own, on {os.cpu_count()} processors: "
+          f"{in_order:.2f} s in order, {apart:.2f} s with --each")
+
+
 def main():
     program = os.path.abspath(sys.argv[1])
     print(f"machine: {os.cpu_count()} processors, load {os.getloadavg()[0]:.1f}")
@@ -152,6 +182,7 @@ def main():
     measure_reports(program)
     measure_pay(program)
     measure_end(program)
+    measure_sessions(program)
 
 
 main()

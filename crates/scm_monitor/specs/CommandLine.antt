@@ -14,7 +14,7 @@ use Rattle.scm_monitor.specs.declared.switches.Asked.{Asked}
 -- ---- which words are taken, and what they ask for
 
 abbrev pub nothing_asked : Asked
-nothing_asked = record { workers = None; check = false; journal = false }
+nothing_asked = record { workers = None; each = false; check = false; journal = false }
 
 -- the number of workers that a word says
 abbrev pub workers_of_word : List ℕ → Option ℕ
@@ -27,9 +27,10 @@ with_workers asked n = if is_some asked.workers then None else Some (record aske
 -- what a word alone asks for too, where it wasn't there before
 abbrev pub with_flag : Asked → List ℕ → Option Asked
 with_flag asked word =
-    if bytes_eq word (codes "--check") && not asked.check then Some (record asked { check = true })
+    if bytes_eq word (codes "--each") && not asked.each then Some (record asked { each = true })
+    else (if bytes_eq word (codes "--check") && not asked.check then Some (record asked { check = true })
     else (if bytes_eq word (codes "--journal") && not asked.journal then Some (record asked { journal = true })
-    else None)
+    else None))
 
 -- what the words ask for after others; `--` may stand last
 abbrev pub asked_by_words : Asked → List (List ℕ) → Option Asked
@@ -43,6 +44,7 @@ asked_by_words asked (word ∷ next ∷ words) =
 abbrev pub asked_for : Asked → Options
 asked_for asked = record {
   workers = unwrap_or asked.workers DEFAULT_WORKERS;
+  each = asked.each;
   check = asked.check;
   journal = asked.journal;
 }
@@ -74,6 +76,12 @@ workers_rule = record (new_rule (codes "workers")) {
   value_names = 1;
 }
 
+abbrev pub each_rule : Rule
+each_rule = record (new_rule (codes "each")) {
+  long = Some (codes "each");
+  action = Some SetTrue;
+}
+
 abbrev pub check_rule : Rule
 check_rule = record (new_rule (codes "check")) {
   long = Some (codes "check");
@@ -94,8 +102,8 @@ help_rule = record (new_rule (codes "help")) {
 }
 
 abbrev pub command_line : App
-command_line = with_rule (with_rule (with_rule (with_rule (on_top (λ top. record top {
+command_line = with_rule (with_rule (with_rule (with_rule (with_rule (on_top (λ top. record top {
   no_binary_name = true;
   disable_help_flag = true;
   has_version = true;
-}) (new_app (codes "scm_monitor"))) workers_rule) check_rule) journal_rule) help_rule
+}) (new_app (codes "scm_monitor"))) workers_rule) each_rule) check_rule) journal_rule) help_rule

@@ -2,7 +2,7 @@
 ghost use Rattle.std.specs.Prelude.{◌≡◌, ◌⊎◌, ◌≤◌, false, None, Some, map, IfOk, IfErr, OnErr, IsErr, IsErrAnd};
 ghost use Rattle.clap.specs.Words.{app_of, kind_of, rule_of};
 ghost use Rattle.scm_monitor.specs.declared.settings.TheConstants.{MOST_WORKERS};
-ghost use Rattle.scm_monitor.specs.CommandLine.{check_rule, command_line, help_rule, journal_rule, options_of, workers_rule, ComesFirst, IsHelp, IsVersion};
+ghost use Rattle.scm_monitor.specs.CommandLine.{check_rule, command_line, each_rule, help_rule, journal_rule, options_of, workers_rule, ComesFirst, IsHelp, IsVersion};
 
 use crate::settings::Options;
 use crate::switches::read_options;
@@ -62,6 +62,19 @@ fn workers_option<'a>(alloc: Global) -> Arg<'a>
         )
 }
 
+/// The option for a thread for each session.
+fn each_option<'a>(alloc: Global) -> Arg<'a>
+    ensures rule { rule_of result ≡ each_rule }
+    ensures local { result.global ≡ false }
+{
+    Arg::new(alloc, "each")
+        .long("each")
+        .action(ArgAction::SetTrue)
+        .help(
+            "Read the script whole, and run the lines of each session in a thread of their own; replies come in groups",
+        )
+}
+
 /// The option for a status that tells what was found.
 fn check_option<'a>(alloc: Global) -> Arg<'a>
     ensures rule { rule_of result ≡ check_rule }
@@ -111,6 +124,7 @@ fn command<'a>(alloc: Global) -> Result<Command<'a>, Error>
             .about(ABOUT)
             .after_help(CALLS)
             .arg(workers_option(alloc))?
+            .arg(each_option(alloc))?
             .arg(check_option(alloc))?
             .arg(journal_option(alloc))?
             .arg(help_option(alloc))?,

@@ -16,7 +16,9 @@ use command_line::options;
 use fault::{fault_status, fault_text};
 use scm_book::Book;
 use scm_expand::FreeGate;
-use scm_sessions::{Ended, Findings, Port, RunFault, run_script, run_with_workers, write_journal};
+use scm_sessions::{
+    Ended, Findings, Port, RunFault, run_each, run_script, run_with_workers, write_journal,
+};
 use scm_shared::BookToken;
 use settings::Options;
 use std::alloc::Global;
@@ -115,7 +117,9 @@ fn run_between<H: Eprint + AllocGlobal + Threads + Wait + Sync, R: Read, W: Writ
     requires writes { has_failed writer.old ≡ false }
 {
     let mut findings = Findings::new();
-    let agreed = if options.workers == 0 {
+    let agreed = if options.each {
+        run_apart(rt, options, reader, writer, &mut findings)?
+    } else if options.workers == 0 {
         run_alone(rt.alloc(), options, reader, writer, &mut findings)?;
         true
     } else {
@@ -177,6 +181,29 @@ fn run_beside<H: AllocGlobal + Threads + Wait + Sync, R: Read, W: Write>(
     let token = BookToken::new(alloc)?;
     let workers = usize::from(options.workers);
     let Ended { audit, names } = run_with_workers::<Brand, R, W, FreeGate, H>(
+        rt, alloc, token, reader, writer, findings, &FreeGate, workers,
+    )?;
+    if options.journal && audit.agreed {
+        write_journal(writer, &audit.book, names.as_slice())?;
+    }
+    Ok(audit.agreed)
+}
+
+// The same with a thread for each session.
+fn run_apart<H: AllocGlobal + Threads + Wait + Sync, R: Read, W: Write>(
+    rt: &H,
+    options: Options,
+    reader: &mut Port<R>,
+    writer: &mut Port<W>,
+    findings: &mut Findings,
+) -> Result<bool, RunFault>
+    requires reads { has_failed reader.old ≡ false }
+    requires writes { has_failed writer.old ≡ false }
+{
+    let alloc = rt.alloc();
+    let token = BookToken::new(alloc)?;
+    let workers = usize::from(options.workers);
+    let Ended { audit, names } = run_each::<Brand, R, W, FreeGate, H>(
         rt, alloc, token, reader, writer, findings, &FreeGate, workers,
     )?;
     if options.journal && audit.agreed {

@@ -11,6 +11,8 @@ pub const DEFAULT_WORKERS: u8 = 2;
 pub struct Options {
     /// How many workers run beside the script: 0 to `MOST_WORKERS`.
     pub workers: u8,
+    /// Whether the lines of each session run in a thread of their own.
+    pub each: bool,
     /// Whether the status tells the worst that was found.
     pub check: bool,
     /// Whether the journal is written after the replies.

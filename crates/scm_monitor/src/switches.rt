@@ -12,6 +12,7 @@ use scm_cells::read_count;
 #[derive(Clone, Copy, Debug, PartialEq, Eq)]
 pub struct Asked {
     workers: Option<u8>,
+    each: bool,
     check: bool,
     journal: bool,
 }
@@ -42,6 +43,7 @@ impl Asked {
     {
         Asked {
             workers: None,
+            each: false,
             check: false,
             journal: false,
         }
@@ -67,6 +69,9 @@ impl Asked {
         ensures with { result ≡ with_flag self word.now }
         ensures kept { IfSome result (λ asked. asked.workers ≡ self.workers) }
     {
+        if is_word(word, "--each") && !self.each {
+            return Some(Asked { each: true, ..self });
+        }
         if is_word(word, "--check") && !self.check {
             return Some(Asked {
                 check: true,
@@ -99,6 +104,7 @@ impl Asked {
     {
         Options {
             workers: self.workers.unwrap_or(DEFAULT_WORKERS),
+            each: self.each,
             check: self.check,
             journal: self.journal,
         }

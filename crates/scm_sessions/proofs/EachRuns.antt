@@ -8,17 +8,20 @@ use Rattle.scm_shared.specs.Passes.{Known}
 use Rattle.scm_shared.specs.Audits.{Agree}
 use Rattle.scm_sessions.specs.declared.ended.Ended.{Ended}
 use Rattle.scm_sessions.specs.Lines.{Line, lines_of, whole_lines_of}
-use Rattle.scm_sessions.specs.Asking.{Asked}
-use Rattle.scm_sessions.specs.Exchanges.{Exchange, has_reply, asked_in, asked_of}
+use Rattle.scm_sessions.specs.declared.findings.Findings.{Findings}
+use Rattle.scm_sessions.specs.Exchanges.{Exchange, has_reply, asked_of}
+use Rattle.scm_sessions.specs.Numbered.{Numbered, numbered_in, all_asked}
+use Rattle.scm_sessions.specs.Findings.{unanswered, found_in, with_findings}
 use Rattle.scm_sessions.specs.Ports.{AppendsPart}
 use Rattle.scm_sessions.specs.Callers.{callers, AreNumberedFrom, made_by}
 use Rattle.scm_sessions.specs.SharedRuns.{AllFit, IsSharedRun}
 use Rattle.scm_sessions.specs.JournalText.{AreNamed}
 use Rattle.scm_sessions.specs.Groups.{Group, groups_of, grouped, GroupsWhole, GroupsWholeLines}
-use Rattle.scm_sessions.specs.Jobs.{Job, AreBegun, AllAnswered, jobs_text, entered_names, entered_passes}
-use Rattle.scm_sessions.specs.EachRuns.{RunsGroups, RunsGroupsWholeLines, RunsGroupsPart}
+use Rattle.scm_sessions.specs.Jobs.{Job, AreBegun, AllAnswered, jobs_text, entered_names, entered_passes, with_jobs, lines_in, replies_in}
+use Rattle.scm_sessions.specs.EachRuns.{group_findings_of, FindsGroups, RunsGroupsWholeLines, RunsGroupsPart}
 use Rattle.scm_sessions.proofs.Sharing.{agreed_by, covered_named}
 use Rattle.scm_sessions.proofs.GroupNames.{AreOf, AreApart, groups_apart}
+use Rattle.scm_sessions.proofs.Merging.{asked_lines, found_grouped}
 use Rattle.scm_sessions.proofs.GroupAnswers.{HasAnswered, HasAnswered-from}
 
 -- ---- what was read
@@ -29,9 +32,9 @@ pub record ReadGroups (script left : Option (List ℕ)) (groups : List Group) : 
   pub lines : List Line
   pub consumed : Consumes script left bytes
   pub lines_are : (lines ≡ whole_lines_of bytes) ⊎ (IsAtEnd left × (lines ≡ lines_of bytes))
-  pub are : groups ≡ groups_of (asked_in lines)
+  pub are : groups ≡ groups_of (numbered_in lines)
 
-pub ReadGroups-whole : {script left : Option (List ℕ)} {groups : List Group} → GroupsWhole script left groups → ReadGroups script left groups
+pub ReadGroups-whole : {script left : Option (List ℕ)} {groups : List Group} {found : Findings} → GroupsWhole script left groups found → ReadGroups script left groups
 ReadGroups-whole read = record {
   bytes = read.bytes;
   lines = lines_of read.bytes;
@@ -50,32 +53,33 @@ ReadGroups-lines read = record {
 }
 
 -- whether a read failed or not
-pub ReadGroups-read : {script left : Option (List ℕ)} {groups : List Group} (failed : Bool) → (failed ≡ false → GroupsWhole script left groups)
+pub ReadGroups-read : {script left : Option (List ℕ)} {groups : List Group} {found : Findings} (failed : Bool)
+    → (failed ≡ false → GroupsWhole script left groups found)
     → (failed ≡ true → GroupsWholeLines script left groups) → ReadGroups script left groups
 ReadGroups-read false whole part = ReadGroups-whole (whole refl)
 ReadGroups-read true whole part = ReadGroups-lines (part refl)
 
 -- ---- what is asked of the jobs has a reply
 
-All-of : (name : Option (List ℕ)) (asked : List Asked) → AreOf name asked → All (λ a. has_reply a ≡ true) asked
-All-of name [] are = All-nil (λ (a : Asked). has_reply a ≡ true)
-All-of name (a ∷ asked) are = All-cons (λ (a : Asked). has_reply a ≡ true) a asked are.0 (All-of name asked are.2)
+All-of : (name : Option (List ℕ)) (lines : List Numbered) → AreOf name (all_asked lines) → All (λ line. has_reply line.asked ≡ true) lines
+All-of name [] are = All-nil (λ (l : Numbered). has_reply l.asked ≡ true)
+All-of name (l ∷ lines) are = All-cons (λ (l : Numbered). has_reply l.asked ≡ true) l lines are.0 (All-of name lines are.2)
 
 -- each line of this job has a reply
 abbrev pub HasReplies : Job → Type 0
-HasReplies job = All (λ asked. has_reply asked ≡ true) job.asked
+HasReplies job = All (λ line. has_reply line.asked ≡ true) job.lines
 
 All-begun : (number : ℕ) (groups : List Group) (jobs : List Job) → AreApart groups → AreBegun number groups jobs → All HasReplies jobs
 All-begun number [] [] apart begin = All-nil HasReplies
 All-begun number [] (job ∷ jobs) apart begin = absurd begin
 All-begun number (g ∷ groups) [] apart begin = absurd begin
 All-begun number (g ∷ groups) (job ∷ jobs) apart (inl begin) =
-    let asked : job.asked ≡ g.asked = ap (λ (j : Job). j.asked) begin.0 in
-    All-cons HasReplies job jobs (subst (All (λ (a : Asked). has_reply a ≡ true)) (sym asked) (All-of g.name g.asked apart.0))
+    let lines : job.lines ≡ g.lines = ap (λ (j : Job). j.lines) begin.0 in
+    All-cons HasReplies job jobs (subst (All (λ (l : Numbered). has_reply l.asked ≡ true)) (sym lines) (All-of g.name g.lines apart.0))
     (All-begun number groups jobs apart.2 begin.1)
 All-begun number (g ∷ groups) (job ∷ jobs) apart (inr begin) =
-    let asked : job.asked ≡ g.asked = ap (λ (j : Job). j.asked) begin.0.begins_so in
-    All-cons HasReplies job jobs (subst (All (λ (a : Asked). has_reply a ≡ true)) (sym asked) (All-of g.name g.asked apart.0))
+    let lines : job.lines ≡ g.lines = ap (λ (j : Job). j.lines) begin.0.begins_so in
+    All-cons HasReplies job jobs (subst (All (λ (l : Numbered). has_reply l.asked ≡ true)) (sym lines) (All-of g.name g.lines apart.0))
     (All-begun (number + 1) groups jobs apart.2 begin.1)
 
 apart_of : {script left : Option (List ℕ)} {groups : List Group} → ReadGroups script left groups → AreApart groups
@@ -87,34 +91,48 @@ begun_reply {script} {left} {groups} begins read begin = All-begun 0 groups begi
 
 -- ---- what was answered and written
 
-asked_are : {groups : List Group} (lines : List Line) (exchanges : List Exchange) → groups ≡ groups_of (asked_in lines)
-    → asked_of exchanges ≡ flat_map (λ group. group.asked) groups → asked_of exchanges ≡ grouped (asked_in lines)
-asked_are lines exchanges are asked = asked ∙ ap (λ (gs : List Group). flat_map (λ group. group.asked) gs) are
+module _ {groups : List Group} {number : ℕ} {jobs : List Job} (lines : List Line) (are : groups ≡ groups_of (numbered_in lines))
+    (had : HasAnswered number groups jobs) where
+  lines_are : lines_in had.answered ≡ grouped (numbered_in lines)
+  lines_are = had.lines ∙ ap (λ (gs : List Group). flat_map (λ group. group.lines) gs) are
+
+  asked_are : asked_of had.exchanges ≡ all_asked (grouped (numbered_in lines))
+  asked_are = ap asked_of (sym had.these) ∙ asked_lines had.answered ∙ ap all_asked lines_are
+
+  found_are : (counted found : Findings) → counted ≡ unanswered (length lines) → found ≡ with_jobs counted jobs
+      → found ≡ group_findings_of lines had.exchanges
+  found_are counted found count is =
+      found_grouped lines had.exchanges had.answered found had.these lines_are
+      (is ∙ had.found counted ∙ ap (λ (f : Findings). with_findings f (found_in (replies_in had.answered))) count)
 
 module _ {script left : Option (List ℕ)} {groups : List Group} (begins jobs : List Job) (begin : AreBegun 0 groups begins) (answered : AllAnswered begins jobs) where
   has : ReadGroups script left groups → HasAnswered 0 groups jobs
   has read = HasAnswered-from 0 groups begins jobs (apart_of read) begin answered
 
   -- the script was read to its end, and the replies were written
-  pub RunsGroups-shared : {written after : Option (List ℕ)} (ended : Ended) (passes : List Known) → GroupsWhole script left groups
-      → Appends written after (jobs_text jobs) → ended.names.items ≡ entered_names jobs → passes ≡ entered_passes jobs
-      → (IsTrue ended.audit.agreed → Agree passes ended.audit.book.journal) → RunsGroups script left written after (IsSharedRun ended)
-  RunsGroups-shared {written} {after} ended passes whole wrote names are agrees =
+  pub FindsGroups-shared : {written after : Option (List ℕ)} {counted : Findings} (ended : Ended) (passes : List Known) (found : Findings)
+      → GroupsWhole script left groups counted → Appends written after (jobs_text jobs) → ended.names.items ≡ entered_names jobs
+      → passes ≡ entered_passes jobs → (IsTrue ended.audit.agreed → Agree passes ended.audit.book.journal)
+      → found ≡ with_jobs counted jobs → FindsGroups script left written after (IsSharedRun ended) found
+  FindsGroups-shared {written} {after} {counted} ended passes found whole wrote names are agrees finds =
       let had = has (ReadGroups-whole whole) in
       let numbered : AreNumberedFrom 0 passes = subst (AreNumberedFrom 0) (sym are) had.numbered in
       record {
-        bytes = whole.bytes;
-        exchanges = had.exchanges;
-        consumed = whole.consumed;
-        ended = whole.ended;
-        asked = asked_are (lines_of whole.bytes) had.exchanges whole.grouped had.asked;
-        appended = subst (Appends written after) had.text wrote;
-        run = record {
-          fit = had.fit;
-          entries = λ agreed name.
-              had.made name ∙ sym (ap₂ (λ (ns : List (List ℕ)) (ps : List Known). made_by (callers ns ps) name) names are)
-              ∙ agreed_by ended.names.items passes ended.audit.book.journal name numbered (agrees agreed);
+        runs = record {
+          bytes = whole.bytes;
+          exchanges = had.exchanges;
+          consumed = whole.consumed;
+          ended = whole.ended;
+          asked = asked_are (lines_of whole.bytes) whole.grouped had;
+          appended = subst (Appends written after) had.text wrote;
+          run = record {
+            fit = had.fit;
+            entries = λ agreed name.
+                had.made name ∙ sym (ap₂ (λ (ns : List (List ℕ)) (ps : List Known). made_by (callers ns ps) name) names are)
+                ∙ agreed_by ended.names.items passes ended.audit.book.journal name numbered (agrees agreed);
+          };
         };
+        found_is = found_are (lines_of whole.bytes) whole.grouped had counted found whole.counted finds;
       }
 
   -- each entry is of a session that has a name
@@ -134,7 +152,7 @@ module _ {script left : Option (List ℕ)} {groups : List Group} (begins jobs : 
         bytes = part.bytes;
         exchanges = had.exchanges;
         consumed = part.consumed;
-        asked = asked_are (whole_lines_of part.bytes) had.exchanges part.grouped had.asked;
+        asked = asked_are (whole_lines_of part.bytes) part.grouped had;
         appended = subst (Appends written after) had.text wrote;
         run = had.fit;
       }
@@ -150,7 +168,7 @@ module _ {script left : Option (List ℕ)} {groups : List Group} (begins jobs : 
         exchanges = had.exchanges;
         consumed = read.consumed;
         lines_are = read.lines_are;
-        asked = asked_are read.lines had.exchanges read.are had.asked;
+        asked = asked_are read.lines read.are had;
         appended = subst (AppendsPart written after) had.text wrote;
         run = had.fit;
       }

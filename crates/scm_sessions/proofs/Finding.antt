@@ -11,7 +11,8 @@ use Rattle.scm_sessions.specs.declared.findings.RefusedLine.{RefusedLine}
 use Rattle.scm_sessions.specs.Lines.{Line}
 use Rattle.scm_sessions.specs.Asking.{Asked, asked_by}
 use Rattle.scm_sessions.specs.Exchanges.{Exchange, has_reply, asked_in, asked_of}
-use Rattle.scm_sessions.specs.Findings.{replies_of, numbers_from, refusal_in, refused_line, first_refused, answers_inconsistent, answers_undecided, findings_of, told, with_answer}
+use Rattle.scm_sessions.specs.Findings.{replies_of, numbers_from, refusal_in, refused_line, first_refused, answers_inconsistent, answers_undecided, findings_of, with_answer}
+use Rattle.scm_sessions.specs.Numbered.{told}
 
 cons≢nil : {X : Type 0} (x : X) (xs : List X) → x ∷ xs ≡ [] → ⊥
 cons≢nil {X = X} x xs e = true≢false (ap (λ (ys : List X). is_some (slice_get ys 0)) e)
@@ -24,7 +25,7 @@ option_or_none : {X : Type 0} (a : Option X) → option_or a None ≡ a
 option_or_none None = refl
 option_or_none (Some x) = refl
 
-or_none : (x : Bool) → (x || false) ≡ x
+pub or_none : (x : Bool) → (x || false) ≡ x
 or_none true = refl
 or_none false = refl
 
@@ -74,15 +75,15 @@ first-append (l ∷ lines) n line more exchanges same =
 
 -- ---- all findings
 
-abbrev findings : ℕ → Option RefusedLine → Bool → Bool → Findings
+abbrev pub findings : ℕ → Option RefusedLine → Bool → Bool → Findings
 findings lines refused is_inconsistent is_undecided =
     record { lines = lines; refused = refused; is_inconsistent = is_inconsistent; is_undecided = is_undecided }
 
-same_findings : (a b : ℕ) (r s : Option RefusedLine) (i j u v : Bool) → a ≡ b → r ≡ s → i ≡ j → u ≡ v → findings a r i u ≡ findings b s j v
+pub same_findings : (a b : ℕ) (r s : Option RefusedLine) (i j u v : Bool) → a ≡ b → r ≡ s → i ≡ j → u ≡ v → findings a r i u ≡ findings b s j v
 same_findings a b r s i j u v lines refused inconsistent undecided =
     ap (λ x. findings x r i u) lines ∙ ap (λ x. findings b x i u) refused ∙ ap (λ x. findings b s x u) inconsistent ∙ ap (λ x. findings b s j x) undecided
 
-told_more : (lines : List Line) (line : Line) → told (length (lines ++ line ∷ [])) ≡ told (told (length lines) + 1)
+pub told_more : (lines : List Line) (line : Line) → told (length (lines ++ line ∷ [])) ≡ told (told (length lines) + 1)
 told_more lines line = simp length-append (omega arith)
 
 any-append : (test : ReplyData → Bool) (exchanges more : List Exchange)

@@ -11,15 +11,20 @@ use Rattle.scm_book.specs.Calls.{CallData, ReplyData}
 use Rattle.scm_shared.specs.Passes.{Known, newcomer}
 use Rattle.scm_sessions.specs.Asking.{Asked, nothing, bad, good, name_in}
 use Rattle.scm_sessions.specs.Replies.{reply_line}
+use Rattle.scm_sessions.specs.declared.findings.Findings.{Findings}
 use Rattle.scm_sessions.specs.Exchanges.{Exchange, asked_of, replies_text}
+use Rattle.scm_sessions.specs.Numbered.{Numbered, numbered, all_asked}
+use Rattle.scm_sessions.specs.Findings.{replies_of, found_in, with_findings}
 use Rattle.scm_sessions.specs.SharedRuns.{FitsAsked, AllFit, became_entry, entry_in, entries_of}
 use Rattle.scm_sessions.specs.Callers.{callers, AreNumberedFrom, made_by}
 use Rattle.scm_sessions.specs.Gathered.{made_in, number_in, entry_for}
 use Rattle.scm_sessions.specs.Groups.{Group, has_name}
-use Rattle.scm_sessions.specs.Jobs.{Job, begun, is_call, AreBegun, replies_in, entries_for, AnsweredWhole, AllAnswered, job_text, jobs_text, names_in, passes_in, entered_names, entered_passes}
+use Rattle.scm_sessions.specs.Jobs.{Job, begun, is_call, AreBegun, entries_for, lines_in, exchanges_in, replies_in, AnsweredWhole, AllAnswered, job_text, jobs_text, names_in, passes_in, entered_names, entered_passes, with_jobs}
 use Rattle.scm_sessions.proofs.Grouping.{is_in}
 use Rattle.scm_sessions.proofs.Making.{same_name, name_eq-refl, made_first, made_next}
 use Rattle.scm_sessions.proofs.GroupNames.{AreOf, AreApart, same_option}
+use Rattle.scm_sessions.proofs.Merging.{with_none as finds_none, with_both, asked_lines}
+use Rattle.scm_sessions.proofs.Replying.{list_any-map}
 
 -- ---- the exchanges of lines of one name
 
@@ -55,7 +60,7 @@ other_entries name of (e ∷ exchanges) other are =
 
 -- their replies stand under this name
 own_lines : (name : Option (List ℕ)) (exchanges : List Exchange) → AreOf name (asked_of exchanges)
-    → flat_map (λ reply. reply_line name reply) (replies_in exchanges) ≡ replies_text exchanges
+    → flat_map (λ reply. reply_line name reply) (replies_of exchanges) ≡ replies_text exchanges
 own_lines name [] are = refl
 own_lines name (e ∷ exchanges) are =
     ap₂ ◌++◌ (ap (λ (n : Option (List ℕ)). reply_line n e.reply) (sym are.1)) (own_lines name exchanges are.2)
@@ -87,45 +92,58 @@ no_passes (Some name) = refl
 
 -- ---- a group
 
--- what the lines of a group asked was answered, by the session of this pass
+-- the lines of a group were answered, by the session of this pass
 record Has (g : Group) (pass : Option Known) (job : Job) : Type 0 where
+  pub answered : List (ℕ × Exchange)
   pub exchanges : List Exchange
-  pub asked : asked_of exchanges ≡ g.asked
+  pub these : exchanges_in answered ≡ exchanges
+  pub lines : lines_in answered ≡ g.lines
+  pub asked : asked_of exchanges ≡ all_asked g.lines
   pub of : AreOf g.name (asked_of exchanges)
   pub name : job.name ≡ g.name
   pub text : job_text job ≡ replies_text exchanges
+  pub found : (f : Findings) → with_findings f job.found ≡ with_findings f (found_in (replies_in answered))
   pub fit : AllFit exchanges
   pub made : made_in job.pass ≡ made_in pass ++ entries_for exchanges
   pub number : number_in job.pass ≡ number_in pass
 
-Has-from : (g : Group) (pass : Option Known) (old new : Job) → old ≡ begun g pass → AreOf g.name g.asked → AnsweredWhole old new → Has g pass new
+Has-from : (g : Group) (pass : Option Known) (old new : Job) → old ≡ begun g pass → AreOf g.name (all_asked g.lines) → AnsweredWhole old new → Has g pass new
 Has-from g pass old new is are whole =
     let had = whole.answered in
-    let asked : asked_of had.exchanges ≡ g.asked =
-    sym (append-nil (asked_of had.exchanges)) ∙ ap (λ (rest : List Asked). asked_of had.exchanges ++ rest) (sym whole.ended) ∙ sym had.asked
-    ∙ ap (λ (j : Job). j.asked) is in
-    let of : AreOf g.name (asked_of had.exchanges) = subst (AreOf g.name) (sym asked) are in
+    let exchanges : List Exchange = exchanges_in had.answered in
+    let lines : lines_in had.answered ≡ g.lines =
+    sym (append-nil (lines_in had.answered)) ∙ ap (λ (rest : List Numbered). lines_in had.answered ++ rest) (sym whole.ended) ∙ sym had.lines
+    ∙ ap (λ (j : Job). j.lines) is in
+    let asked : asked_of exchanges ≡ all_asked g.lines = asked_lines had.answered ∙ ap all_asked lines in
+    let of : AreOf g.name (asked_of exchanges) = subst (AreOf g.name) (sym asked) are in
     let name : new.name ≡ g.name = had.name ∙ ap (λ (j : Job). j.name) is in
-    let replies : new.replies ≡ replies_in had.exchanges = had.replies ∙ ap (λ (j : Job). j.replies ++ replies_in had.exchanges) is in
+    let replies : new.replies ≡ replies_of exchanges = had.replies ∙ ap (λ (j : Job). j.replies ++ replies_of exchanges) is in
     record {
-      exchanges = had.exchanges;
+      answered = had.answered;
+      exchanges = exchanges;
+      these = refl;
+      lines = lines;
       asked = asked;
       of = of;
       name = name;
       text = ap₂ (λ (n : Option (List ℕ)) (rs : List ReplyData). flat_map (λ reply. reply_line n reply) rs) name replies
-          ∙ own_lines g.name had.exchanges of;
+          ∙ own_lines g.name exchanges of;
+      found = λ f. ap (with_findings f) (had.found ∙ ap (λ (j : Job). with_findings j.found (found_in (replies_in had.answered))) is);
       fit = had.fit;
-      made = had.made ∙ ap (λ (j : Job). made_in j.pass ++ entries_for had.exchanges) is;
+      made = had.made ∙ ap (λ (j : Job). made_in j.pass ++ entries_for exchanges) is;
       number = had.number ∙ ap (λ (j : Job). number_in j.pass) is;
     }
 
 -- ---- all groups
 
--- what the lines of these groups asked was answered, by the sessions of passes from this number on
+-- the lines of these groups were answered, by the sessions of passes from this number on
 pub record HasAnswered (number : ℕ) (groups : List Group) (jobs : List Job) : Type 0 where
+  pub answered : List (ℕ × Exchange)
   pub exchanges : List Exchange
-  pub asked : asked_of exchanges ≡ flat_map (λ group. group.asked) groups
+  pub these : exchanges_in answered ≡ exchanges
+  pub lines : lines_in answered ≡ flat_map (λ group. group.lines) groups
   pub text : jobs_text jobs ≡ replies_text exchanges
+  pub found : (f : Findings) → with_jobs f jobs ≡ with_findings f (found_in (replies_in answered))
   pub fit : AllFit exchanges
   pub numbered : AreNumberedFrom number (entered_passes jobs)
   pub each : length (entered_passes jobs) ≡ length (entered_names jobs)
@@ -142,8 +160,22 @@ module _ (g : Group) (pass : Option Known) (job : Job) (has : Has g pass job) (n
   abbrev all : List Exchange
   all = has.exchanges ++ others.exchanges
 
-  asked_all : asked_of all ≡ flat_map (λ group. group.asked) (g ∷ groups)
-  asked_all = map-append (λ (e : Exchange). e.asked) has.exchanges others.exchanges ∙ ap₂ ◌++◌ has.asked others.asked
+  abbrev both : List (ℕ × Exchange)
+  both = has.answered ++ others.answered
+
+  these_all : exchanges_in both ≡ all
+  these_all = map-append (λ (a : ℕ × Exchange). a.1) has.answered others.answered ∙ ap₂ ◌++◌ has.these others.these
+
+  lines_all : lines_in both ≡ flat_map (λ group. group.lines) (g ∷ groups)
+  lines_all = map-append (λ (a : ℕ × Exchange). numbered a.0 a.1.asked) has.answered others.answered ∙ ap₂ ◌++◌ has.lines others.lines
+
+  found_all : (f : Findings) → with_jobs f (job ∷ jobs) ≡ with_findings f (found_in (replies_in both))
+  found_all f =
+      others.found (with_findings f job.found)
+      ∙ ap (λ (x : Findings). with_findings x (found_in (replies_in others.answered))) (has.found f)
+      ∙ with_both f (replies_in has.answered) (replies_in others.answered)
+      ∙ ap (λ (xs : List (ℕ × ReplyData)). with_findings f (found_in xs))
+      (sym (map-append (λ (a : ℕ × Exchange). (a.0, a.1.reply)) has.answered others.answered))
 
   text_all : jobs_text (job ∷ jobs) ≡ replies_text all
   text_all =
@@ -182,9 +214,12 @@ module _ (g : Group) (pass : Option Known) (job : Job) (has : Has g pass job) (n
       let passes : entered_passes jobs ≡ entered_passes (job ∷ jobs) =
       ap (λ (ps : List Known). ps ++ entered_passes jobs) (sym (ap (passes_in job.name) left ∙ no_passes job.name)) in
       record {
+        answered = both;
         exchanges = all;
-        asked = asked_all;
+        these = these_all;
+        lines = lines_all;
         text = text_all;
+        found = found_all;
         fit = fit_all;
         numbered = subst (AreNumberedFrom number) passes others.numbered;
         each = ap length (sym passes) ∙ others.each ∙ ap length names;
@@ -216,10 +251,11 @@ module _ (g : Group) (pass : Option Known) (job : Job) (has : Has g pass job) (n
 
 -- the group entered with the pass before those of the others
 with_pass : (g : Group) (job : Job) (number : ℕ) (has : Has g (Some (newcomer number)) job) (groups : List Group) (jobs : List Job)
-    (others : HasAnswered (number + 1) groups jobs) (apart : is_in groups g.name ≡ false) → list_any is_call g.asked ≡ true
+    (others : HasAnswered (number + 1) groups jobs) (apart : is_in groups g.name ≡ false) → list_any (λ line. is_call line.asked) g.lines ≡ true
     → HasAnswered number (g ∷ groups) (job ∷ jobs)
 with_pass g job number has groups jobs others apart calls =
-    let called = call_named g.name g.asked (subst (AreOf g.name) has.asked has.of) calls in
+    let some : list_any is_call (all_asked g.lines) ≡ true = list_any-map is_call (λ (line : Numbered). line.asked) g.lines ∙ calls in
+    let called = call_named g.name (all_asked g.lines) (subst (AreOf g.name) has.asked has.of) some in
     let entered = some_pass job.pass number has.number in
     let n = called.0 in
     let known = entered.0 in
@@ -229,9 +265,12 @@ with_pass g job number has groups jobs others apart calls =
     let passes : known ∷ entered_passes jobs ≡ entered_passes (job ∷ jobs) =
     ap₂ (λ (m : Option (List ℕ)) (p : Option Known). passes_in m p ++ entered_passes jobs) (sym (has.name ∙ called.1)) (sym entered.1) in
     record {
+      answered = both g (Some (newcomer number)) job has (number + 1) groups jobs others apart;
       exchanges = all g (Some (newcomer number)) job has (number + 1) groups jobs others apart;
-      asked = asked_all g (Some (newcomer number)) job has (number + 1) groups jobs others apart;
+      these = these_all g (Some (newcomer number)) job has (number + 1) groups jobs others apart;
+      lines = lines_all g (Some (newcomer number)) job has (number + 1) groups jobs others apart;
       text = text_all g (Some (newcomer number)) job has (number + 1) groups jobs others apart;
+      found = found_all g (Some (newcomer number)) job has (number + 1) groups jobs others apart;
       fit = fit_all g (Some (newcomer number)) job has (number + 1) groups jobs others apart;
       numbered = subst (AreNumberedFrom number) passes (entered.2, others.numbered);
       each = ap length (sym passes) ∙ ap suc others.each ∙ ap length names;
@@ -243,9 +282,12 @@ with_pass g job number has groups jobs others apart calls =
 pub HasAnswered-from : (number : ℕ) (groups : List Group) (begins jobs : List Job) → AreApart groups → AreBegun number groups begins
     → AllAnswered begins jobs → HasAnswered number groups jobs
 HasAnswered-from number [] [] [] apart begin answered = record {
+  answered = [];
   exchanges = [];
-  asked = refl;
+  these = refl;
+  lines = refl;
   text = refl;
+  found = λ f. sym (finds_none f);
   fit = All-nil (λ (e : Exchange). FitsAsked e.asked e.reply);
   numbered = tt;
   each = refl;

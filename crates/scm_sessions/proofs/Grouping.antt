@@ -1,19 +1,22 @@
 -- What a line asks goes into the group of its name.
-use Rattle.std.proofs.Common.{◌≡◌, ℕ, zero, suc, ◌+◌, List, [], ◌∷◌, ◌++◌, refl, sym, ap, ap₂, ◌∙◌, subst, arith, Bool, true, false, not, ◌||◌, Option, Result, Ok, Err, OnOk, set, get_or, fold, filter, map}
+use Rattle.std.proofs.Common.{◌≡◌, ℕ, zero, suc, ◌+◌, List, [], ◌∷◌, ◌++◌, refl, sym, ap, ap₂, ◌∙◌, subst, arith, Bool, true, false, not, ◌||◌, Option, Result, Ok, Err, OnOk, None, length, set, get_or, fold}
 use Rattle.std.specs.List.{list_any, position_or_len}
 use Rattle.std.specs.Option.{option_eq}
 use Rattle.std.specs.Io.KnownBytes.{Consumes, Keeps, IsAtEnd, prepend_known}
 use Rattle.std.proofs.KnownBytes.{Consumes-nil, Consumes-trans, Consumes-kept, prepend_known-nil}
-use Rattle.std.proofs.lemmas.List.{map-append}
 use Rattle.std.proofs.lemmas.List.Elements.{filter-append}
 use Rattle.scm_cells.specs.Names.{name_eq}
 use Rattle.scm_sessions.specs.declared.reading.Cut.TheVariants.{Whole, Last}
 use Rattle.scm_sessions.specs.Lines.{Line, line_of, HasNoFeed}
-use Rattle.scm_sessions.specs.Asking.{Asked, asked_by, name_in}
-use Rattle.scm_sessions.specs.Exchanges.{has_reply, asked_in}
+use Rattle.scm_sessions.specs.declared.findings.Findings.{Findings}
+use Rattle.scm_sessions.specs.Asking.{asked_by, name_in}
+use Rattle.scm_sessions.specs.Exchanges.{has_reply}
+use Rattle.scm_sessions.specs.Numbered.{Numbered, numbered, numbered_from, numbered_in, replied, told}
+use Rattle.scm_sessions.specs.Findings.{unanswered, with_line}
 use Rattle.scm_sessions.specs.Reading.{TakesLine}
-use Rattle.scm_sessions.specs.Groups.{Group, group, has_name, with_asked, groups_of, with_name, with_line, names_of, GroupsWhole, GroupsWholeLines}
+use Rattle.scm_sessions.specs.Groups.{Group, group, has_name, with_numbered, groups_of, with_name, with_next, names_of, GroupsWhole, GroupsWholeLines}
 use Rattle.scm_sessions.proofs.Cutting.{AreLines, AreLines-nil, AreLines-more, lines_of-end, lines_of-last, whole_lines_of-part}
+use Rattle.scm_sessions.proofs.Finding.{findings, told_more}
 use Rattle.scm_sessions.proofs.Running.{end_after}
 
 -- ---- places
@@ -83,8 +86,8 @@ module _ (keys : List (Option (List ℕ))) (groups now : List Group) (found name
 -- ---- one line more
 
 -- the same group with one line more
-abbrev more : Group → Asked → Group
-more g a = group g.name (g.asked ++ a ∷ [])
+abbrev more : Group → Numbered → Group
+more g l = group g.name (g.lines ++ l ∷ [])
 
 with_name-first : (g : Group) (groups : List Group) (name : Option (List ℕ)) → has_name name g ≡ true → with_name (g ∷ groups) name ≡ g ∷ groups
 with_name-first g groups name found = rw found refl
@@ -97,37 +100,38 @@ with_name-next g groups name other = at (is_in groups name) refl
     at true is = rw other (rw is refl)
     at false is = rw other (rw is refl)
 
-pub with_asked-first : (g : Group) (groups : List Group) (a : Asked) → has_name (name_in a) g ≡ true → with_asked (g ∷ groups) a ≡ more g a ∷ groups
-with_asked-first g groups a found = rw found refl
+pub with_numbered-first : (g : Group) (groups : List Group) (l : Numbered) → has_name (name_in l.asked) g ≡ true
+    → with_numbered (g ∷ groups) l ≡ more g l ∷ groups
+with_numbered-first g groups l found = rw found refl
 
-pub with_asked-next : (g : Group) (groups : List Group) (a : Asked) → has_name (name_in a) g ≡ false
-    → with_asked (g ∷ groups) a ≡ g ∷ with_asked groups a
-with_asked-next g groups a other = rw other refl
+pub with_numbered-next : (g : Group) (groups : List Group) (l : Numbered) → has_name (name_in l.asked) g ≡ false
+    → with_numbered (g ∷ groups) l ≡ g ∷ with_numbered groups l
+with_numbered-next g groups l other = rw other refl
 
 -- where the group at the place of its name had one line more, the groups had it
-abbrev Puts : List Group → Asked → Group → Group → Type 0
-Puts groups a old new = old ≡ get_or (with_name groups (name_in a)) (place_in groups (name_in a)) old
-    → set (with_name groups (name_in a)) (place_in groups (name_in a)) new ≡ with_asked groups a
+abbrev Puts : List Group → Numbered → Group → Group → Type 0
+Puts groups l old new = old ≡ get_or (with_name groups (name_in l.asked)) (place_in groups (name_in l.asked)) old
+    → set (with_name groups (name_in l.asked)) (place_in groups (name_in l.asked)) new ≡ with_numbered groups l
 
-pub line_pushed : (groups : List Group) (a : Asked) (old new : Group) → new ≡ more old a → Puts groups a old new
-line_pushed [] a old new is was = ap (λ (g : Group). g ∷ []) (is ∙ ap (λ (g : Group). more g a) was)
-line_pushed (g ∷ groups) a old new is was = at (has_name (name_in a) g) refl (line_pushed groups a old new is)
+pub line_pushed : (groups : List Group) (l : Numbered) (old new : Group) → new ≡ more old l → Puts groups l old new
+line_pushed [] l old new is was = ap (λ (g : Group). g ∷ []) (is ∙ ap (λ (g : Group). more g l) was)
+line_pushed (g ∷ groups) l old new is was = at (has_name (name_in l.asked) g) refl (line_pushed groups l old new is)
   where
-    at : (b : Bool) → has_name (name_in a) g ≡ b → Puts groups a old new
-        → set (with_name (g ∷ groups) (name_in a)) (place_in (g ∷ groups) (name_in a)) new ≡ with_asked (g ∷ groups) a
+    at : (b : Bool) → has_name (name_in l.asked) g ≡ b → Puts groups l old new
+        → set (with_name (g ∷ groups) (name_in l.asked)) (place_in (g ∷ groups) (name_in l.asked)) new ≡ with_numbered (g ∷ groups) l
     at true first others =
-        let names = with_name-first g groups (name_in a) first in
-        let place = first_place g groups (name_in a) first in
+        let names = with_name-first g groups (name_in l.asked) first in
+        let place = first_place g groups (name_in l.asked) first in
         let here : old ≡ g = was ∙ ap₂ (λ (gs : List Group) (k : ℕ). get_or gs k old) names place in
-        ap₂ (λ (gs : List Group) (k : ℕ). set gs k new) names place ∙ ap (λ (x : Group). x ∷ groups) (is ∙ ap (λ (x : Group). more x a) here)
-        ∙ sym (with_asked-first g groups a first)
+        ap₂ (λ (gs : List Group) (k : ℕ). set gs k new) names place ∙ ap (λ (x : Group). x ∷ groups) (is ∙ ap (λ (x : Group). more x l) here)
+        ∙ sym (with_numbered-first g groups l first)
     at false other others =
-        let names = with_name-next g groups (name_in a) other in
-        let place = next_place g groups (name_in a) other in
-        let there : old ≡ get_or (with_name groups (name_in a)) (place_in groups (name_in a)) old =
+        let names = with_name-next g groups (name_in l.asked) other in
+        let place = next_place g groups (name_in l.asked) other in
+        let there : old ≡ get_or (with_name groups (name_in l.asked)) (place_in groups (name_in l.asked)) old =
         was ∙ ap₂ (λ (gs : List Group) (k : ℕ). get_or gs k old) names place in
         ap₂ (λ (gs : List Group) (k : ℕ). set gs k new) names place ∙ ap (λ (gs : List Group). g ∷ gs) (others there)
-        ∙ sym (with_asked-next g groups a other)
+        ∙ sym (with_numbered-next g groups l other)
 
 -- the names stay
 pub names_set : (groups : List Group) (k : ℕ) (old new : Group) → old ≡ get_or groups k old → new.name ≡ old.name → names_of (set groups k new) ≡ names_of groups
@@ -136,12 +140,12 @@ names_set (g ∷ groups) zero old new was same = ap (λ (n : Option (List ℕ)).
 names_set (g ∷ groups) (suc k) old new was same = ap (λ (ns : List (Option (List ℕ))). g.name ∷ ns) (names_set groups k old new was same)
 
 -- the same, where the groups stand elsewhere
-pub pushed_at : (now items mid : List Group) (place : ℕ) (a : Asked) (old new : Group) → items ≡ mid → mid ≡ with_name now (name_in a)
-    → place ≡ place_in now (name_in a) → old ≡ get_or items place old → new ≡ more old a → set items place new ≡ with_asked now a
-pushed_at now items mid place a old new view named is_place was is =
-    let there : old ≡ get_or (with_name now (name_in a)) (place_in now (name_in a)) old =
+pub pushed_at : (now items mid : List Group) (place : ℕ) (l : Numbered) (old new : Group) → items ≡ mid → mid ≡ with_name now (name_in l.asked)
+    → place ≡ place_in now (name_in l.asked) → old ≡ get_or items place old → new ≡ more old l → set items place new ≡ with_numbered now l
+pushed_at now items mid place l old new view named is_place was is =
+    let there : old ≡ get_or (with_name now (name_in l.asked)) (place_in now (name_in l.asked)) old =
     was ∙ ap₂ (λ (gs : List Group) (k : ℕ). get_or gs k old) (view ∙ named) is_place in
-    ap₂ (λ (gs : List Group) (k : ℕ). set gs k new) (view ∙ named) is_place ∙ line_pushed now a old new is there
+    ap₂ (λ (gs : List Group) (k : ℕ). set gs k new) (view ∙ named) is_place ∙ line_pushed now l old new is there
 
 pub on_ok : {X E A B : Type 0} (r : Result X E) → (A → B) → OnOk r A → OnOk r B
 on_ok (Ok x) f a = f a
@@ -153,75 +157,106 @@ fold_on : {A B : Type 0} (f : B → A → B) (start : B) (xs ys : List A) → fo
 fold_on f start [] ys = refl
 fold_on f start (x ∷ xs) ys = fold_on f (f start x) xs ys
 
-asked_in_more : (lines : List Line) (line : Line) → asked_in (lines ++ line ∷ []) ≡ asked_in lines ++ asked_in (line ∷ [])
-asked_in_more lines line =
-    ap (λ (asked : List Asked). filter has_reply asked) (map-append asked_by lines (line ∷ []))
-    ∙ filter-append has_reply (map asked_by lines) (map asked_by (line ∷ []))
+numbered_from-more : (n : ℕ) (lines : List Line) (line : Line)
+    → numbered_from n (lines ++ line ∷ []) ≡ numbered_from n lines ++ numbered (told (n + length lines)) (asked_by line) ∷ []
+numbered_from-more n [] line =
+    let is : n ≡ n + 0 = omega arith in ap (λ (k : ℕ). numbered (told k) (asked_by line) ∷ []) is
+numbered_from-more n (l ∷ lines) line =
+    let is : n + 1 + length lines ≡ n + length (l ∷ lines) = omega arith in
+    ap (λ (ls : List Numbered). numbered (told n) (asked_by l) ∷ ls)
+    (numbered_from-more (n + 1) lines line
+    ∙ ap (λ (k : ℕ). numbered_from (n + 1) lines ++ numbered (told k) (asked_by line) ∷ []) is)
+
+-- the next line has the number after those that were counted
+numbered_in-more : (lines : List Line) (line : Line)
+    → numbered_in (lines ++ line ∷ []) ≡ numbered_in lines ++ replied (numbered (told (told (length lines) + 1)) (asked_by line) ∷ [])
+numbered_in-more lines line =
+    let number : told (1 + length lines) ≡ told (told (length lines) + 1) = omega arith in
+    ap replied (numbered_from-more 1 lines line ∙ ap (λ (k : ℕ). numbered_from 1 lines ++ numbered k (asked_by line) ∷ []) number)
+    ∙ filter-append (λ (l : Numbered). has_reply l.asked) (numbered_from 1 lines) (numbered (told (told (length lines) + 1)) (asked_by line) ∷ [])
 
 -- the groups of these lines and one more
-groups_more : (lines : List Line) (line : Line) → with_line (groups_of (asked_in lines)) line ≡ groups_of (asked_in (lines ++ line ∷ []))
+groups_more : (lines : List Line) (line : Line)
+    → with_next (groups_of (numbered_in lines)) (told (told (length lines) + 1)) line ≡ groups_of (numbered_in (lines ++ line ∷ []))
 groups_more lines line =
-    sym (ap groups_of (asked_in_more lines line) ∙ fold_on with_asked [] (asked_in lines) (asked_in (line ∷ [])))
+    sym (ap groups_of (numbered_in-more lines line)
+    ∙ fold_on with_numbered [] (numbered_in lines) (replied (numbered (told (told (length lines) + 1)) (asked_by line) ∷ [])))
 
--- bytes were taken from a script and are lines, which stand in their groups
-pub record HasGrouped (script left : Option (List ℕ)) (groups : List Group) : Type 0 where
+-- bytes were taken from a script and are lines, which were counted and stand in their groups
+pub record HasGrouped (script left : Option (List ℕ)) (groups : List Group) (found : Findings) : Type 0 where
   pub bytes : List ℕ
   pub lines : List Line
   pub read : Consumes script left bytes
   pub are : AreLines bytes lines
-  pub grouped : groups ≡ groups_of (asked_in lines)
+  pub grouped : groups ≡ groups_of (numbered_in lines)
+  pub counted : found ≡ unanswered (length lines)
 
-pub HasGrouped-start : (unread : List ℕ) (script : Option (List ℕ)) (groups : List Group) → unread ≡ [] → groups ≡ []
-    → HasGrouped script (prepend_known unread script) groups
-HasGrouped-start unread script groups none new = record {
+pub HasGrouped-start : (unread : List ℕ) (script : Option (List ℕ)) (groups : List Group) (found : Findings) → unread ≡ [] → groups ≡ []
+    → found ≡ unanswered 0 → HasGrouped script (prepend_known unread script) groups found
+HasGrouped-start unread script groups found none new uncounted = record {
   bytes = [];
   lines = [];
   read = let P : Option (List ℕ) → Type 0 = λ l. Consumes script l [] in
       subst P (sym (ap (λ u. prepend_known u script) none ∙ prepend_known-nil script)) (Consumes-nil script);
   are = AreLines-nil;
   grouped = new;
+  counted = uncounted;
 }
 
-more_grouped : (before : List Group) (lines : List Line) (line : Line) (piece : List ℕ) (after : List Group) → before ≡ groups_of (asked_in lines)
-    → line ≡ line_of piece → after ≡ with_line before line → after ≡ groups_of (asked_in (lines ++ line_of piece ∷ []))
-more_grouped before lines line piece after had is put =
-    put ∙ ap₂ with_line had is ∙ groups_more lines (line_of piece)
+more_counted : (found after : Findings) (lines : List Line) (line : Line) → found ≡ unanswered (length lines) → after ≡ with_line found
+    → after ≡ unanswered (length (lines ++ line ∷ []))
+more_counted found after lines line had counts =
+    counts ∙ ap with_line had ∙ ap (λ (n : ℕ). findings n None false false) (sym (told_more lines line))
 
-module _ {script left : Option (List ℕ)} {before : List Group} (had : HasGrouped script left before) where
+more_grouped : (before : List Group) (lines : List Line) (line : Line) (piece : List ℕ) (after : List Group) (found counted : Findings)
+    → before ≡ groups_of (numbered_in lines) → line ≡ line_of piece → found ≡ unanswered (length lines) → counted ≡ with_line found
+    → after ≡ with_next before counted.lines line → after ≡ groups_of (numbered_in (lines ++ line_of piece ∷ []))
+more_grouped before lines line piece after found counted had is uncounted counts put =
+    let number : counted.lines ≡ told (told (length lines) + 1) = ap (λ (f : Findings). f.lines) (counts ∙ ap with_line uncounted) in
+    put ∙ ap₂ (λ (gs : List Group) (k : ℕ). with_next gs k line) had number
+    ∙ ap (with_next (groups_of (numbered_in lines)) (told (told (length lines) + 1))) is ∙ groups_more lines (line_of piece)
+
+module _ {script left : Option (List ℕ)} {before : List Group} {found : Findings} (had : HasGrouped script left before found) where
   -- one more whole line
-  pub HasGrouped-more : (next : Option (List ℕ)) (line : Line) (after : List Group) → TakesLine Whole left next line → after ≡ with_line before line
-      → HasGrouped script next after
-  HasGrouped-more next line after takes put = record {
+  pub HasGrouped-more : (next : Option (List ℕ)) (line : Line) (after : List Group) (counted : Findings) → TakesLine Whole left next line
+      → counted ≡ with_line found → after ≡ with_next before counted.lines line → HasGrouped script next after counted
+  HasGrouped-more next line after counted takes counts put = record {
     bytes = had.bytes ++ (takes.0 ++ 10 ∷ []);
     lines = had.lines ++ line_of takes.0 ∷ [];
     read = Consumes-trans script left next _ _ had.read takes.2;
     are = AreLines-more takes.0 had.are takes.1;
-    grouped = more_grouped before had.lines line takes.0 after had.grouped takes.3 put;
+    grouped = more_grouped before had.lines line takes.0 after found counted had.grouped takes.3 had.counted counts put;
+    counted = more_counted found counted had.lines (line_of takes.0) had.counted counts;
   }
 
   -- the script is at its end
   pub GroupsWhole-end : (unread : List ℕ) (rest : Option (List ℕ)) → IsAtEnd (prepend_known unread rest) × Keeps left (prepend_known unread rest)
-      → GroupsWhole script rest before
+      → GroupsWhole script rest before found
   GroupsWhole-end unread rest takes =
       let ends = end_after unread script rest had.bytes (Consumes-kept script left _ had.bytes had.read takes.1) takes.0 in
       record {
         bytes = had.bytes;
         consumed = ends.0;
         ended = ends.1;
-        grouped = had.grouped ∙ ap (λ (lines : List Line). groups_of (asked_in lines)) (sym (lines_of-end had.are));
+        grouped = had.grouped ∙ ap (λ (lines : List Line). groups_of (numbered_in lines)) (sym (lines_of-end had.are));
+        counted = had.counted ∙ ap (λ (lines : List Line). unanswered (length lines)) (sym (lines_of-end had.are));
       }
 
   -- the last line has no line feed
-  pub GroupsWhole-last : (unread : List ℕ) (rest : Option (List ℕ)) (line : Line) (after : List Group) → TakesLine Last left (prepend_known unread rest) line
-      → after ≡ with_line before line → GroupsWhole script rest after
-  GroupsWhole-last unread rest line after takes put =
+  pub GroupsWhole-last : (unread : List ℕ) (rest : Option (List ℕ)) (line : Line) (after : List Group) (counted : Findings)
+      → TakesLine Last left (prepend_known unread rest) line → counted ≡ with_line found → after ≡ with_next before counted.lines line
+      → GroupsWhole script rest after counted
+  GroupsWhole-last unread rest line after counted takes counts put =
       let ends = end_after unread script rest (had.bytes ++ takes.0) (Consumes-trans script left _ _ _ had.read takes.3) takes.4 in
+      let cut = lines_of-last takes.0 had.are takes.1 takes.2 in
       record {
         bytes = had.bytes ++ takes.0;
         consumed = ends.0;
         ended = ends.1;
-        grouped = more_grouped before had.lines line takes.0 after had.grouped takes.5 put
-            ∙ ap (λ (lines : List Line). groups_of (asked_in lines)) (sym (lines_of-last takes.0 had.are takes.1 takes.2));
+        grouped = more_grouped before had.lines line takes.0 after found counted had.grouped takes.5 had.counted counts put
+            ∙ ap (λ (lines : List Line). groups_of (numbered_in lines)) (sym cut);
+        counted = more_counted found counted had.lines (line_of takes.0) had.counted counts
+            ∙ ap (λ (lines : List Line). unanswered (length lines)) (sym cut);
       }
 
   -- a read failed
@@ -229,5 +264,5 @@ module _ {script left : Option (List ℕ)} {before : List Group} (had : HasGroup
   GroupsWholeLines-part rest broken = record {
     bytes = had.bytes ++ broken.0;
     consumed = Consumes-trans script left rest _ _ had.read broken.2;
-    grouped = had.grouped ∙ ap (λ (lines : List Line). groups_of (asked_in lines)) (sym (whole_lines_of-part broken.0 had.are broken.1));
+    grouped = had.grouped ∙ ap (λ (lines : List Line). groups_of (numbered_in lines)) (sym (whole_lines_of-part broken.0 had.are broken.1));
   }

@@ -8,6 +8,7 @@ pub mod Numbering
 pub mod Naming
 pub mod Cutting
 pub mod Finding
+pub mod Merging
 pub mod Running
 pub mod Grouping
 pub mod Making

@@ -1,5 +1,5 @@
 -- Groups of lines begin to run, and their lines are answered one after the other.
-use Rattle.std.proofs.Common.{◌≡◌, ◌⊎◌, ℕ, suc, ◌+◌, ◌<◌, ◌||◌, List, [], ◌∷◌, ◌++◌, length, refl, inl, inr, sym, ap, ◌∙◌, subst, arith, append-nil, append_assoc, Bool, true, Option, None, Some, map, All, IfSome, slice_index_or}
+use Rattle.std.proofs.Common.{◌≡◌, ◌⊎◌, ℕ, suc, ◌+◌, ◌<◌, ◌||◌, List, [], ◌∷◌, ◌++◌, length, refl, inl, inr, sym, ap, ap₂, ◌∙◌, subst, arith, append-nil, append_assoc, Bool, true, Option, None, Some, map, All, IfSome, slice_index_or}
 use Rattle.std.specs.List.{list_any}
 use Rattle.std.specs.Option.{option_map_or}
 use Rattle.std.proofs.lemmas.List.{map-append}
@@ -8,23 +8,28 @@ use Rattle.std.proofs.lemmas.Grind.{flat_map-append}
 use Rattle.scm_book.specs.declared.reply.Reply.{Reply}
 use Rattle.scm_book.specs.Calls.{CallData, ReplyData, reply_data}
 use Rattle.scm_shared.specs.Passes.{Known, newcomer}
-use Rattle.scm_sessions.specs.declared.asking.Asked.{Asked as AskedLine}
+use Rattle.scm_sessions.specs.declared.numbered.NumberedLine.{NumberedLine}
+use Rattle.scm_sessions.specs.declared.findings.Findings.{Findings}
 use Rattle.scm_sessions.specs.Asking.{Asked, asked_data}
-use Rattle.scm_sessions.specs.Exchanges.{Exchange, exchange, asked_of, has_reply}
-use Rattle.scm_sessions.specs.SharedRuns.{FitsAsked}
+use Rattle.scm_sessions.specs.Exchanges.{Exchange, exchange, has_reply}
+use Rattle.scm_sessions.specs.Numbered.{Numbered, numbered, line_data}
+use Rattle.scm_sessions.specs.Findings.{replies_of, unanswered, found_in, with_findings}
+use Rattle.scm_sessions.specs.SharedRuns.{FitsAsked, AllFit}
 use Rattle.scm_sessions.specs.Gathered.{made_in, entry_for, AnswersIn}
 use Rattle.scm_sessions.specs.Groups.{Group, group}
-use Rattle.scm_sessions.specs.Jobs.{Job, job, begun, is_call, AreBegun, Enters, replies_in, entries_for, Answered, AnsweredWhole, AllAnswered}
+use Rattle.scm_sessions.proofs.Merging.{with_none, with_both}
+use Rattle.scm_sessions.specs.Jobs.{Job, job, begun, is_call, AreBegun, Enters, entries_for, lines_in, exchanges_in, replies_in, Answered, AnsweredWhole, AllAnswered}
 
 -- ---- one line more
 
 -- no line was answered yet
 pub Answered-none : (of : Job) → Answered of of
 Answered-none of = record {
-  exchanges = [];
+  answered = [];
   name = refl;
-  asked = refl;
+  lines = refl;
   replies = sym (append-nil of.replies);
+  found = sym (with_none of.found);
   fit = All-nil (λ (e : Exchange). FitsAsked e.asked e.reply);
   made = sym (append-nil (made_in of.pass));
   number = refl;
@@ -32,50 +37,73 @@ Answered-none of = record {
 
 -- more lines were answered
 pub Answered-more : {a b c : Job} → Answered a b → Answered b c → Answered a c
-Answered-more {a} {b} {c} one other = record {
-  exchanges = one.exchanges ++ other.exchanges;
-  name = other.name ∙ one.name;
-  asked = one.asked ∙ ap (λ (l : List Asked). asked_of one.exchanges ++ l) other.asked
-      ∙ sym (append_assoc (asked_of one.exchanges) (asked_of other.exchanges) c.asked)
-      ∙ ap (λ (l : List Asked). l ++ c.asked) (sym (map-append (λ (e : Exchange). e.asked) one.exchanges other.exchanges));
-  replies = other.replies ∙ ap (λ (l : List ReplyData). l ++ replies_in other.exchanges) one.replies
-      ∙ append_assoc a.replies (replies_in one.exchanges) (replies_in other.exchanges)
-      ∙ ap (λ (l : List ReplyData). a.replies ++ l) (sym (map-append (λ (e : Exchange). e.reply) one.exchanges other.exchanges));
-  fit = All-append (λ (e : Exchange). FitsAsked e.asked e.reply) one.exchanges other.exchanges one.fit other.fit;
-  made = other.made ∙ ap (λ (l : List (CallData × ReplyData)). l ++ entries_for other.exchanges) one.made
-      ∙ append_assoc (made_in a.pass) (entries_for one.exchanges) (entries_for other.exchanges)
-      ∙ ap (λ (l : List (CallData × ReplyData)). made_in a.pass ++ l)
-      (sym (flat_map-append (λ (e : Exchange). entry_for e.asked e.reply) one.exchanges other.exchanges));
-  number = other.number ∙ one.number;
-}
+Answered-more {a} {b} {c} one other =
+    let es : List Exchange = exchanges_in one.answered in
+    let more : List Exchange = exchanges_in other.answered in
+    let both : exchanges_in (one.answered ++ other.answered) ≡ es ++ more = map-append (λ (a : ℕ × Exchange). a.1) one.answered other.answered in
+    record {
+      answered = one.answered ++ other.answered;
+      name = other.name ∙ one.name;
+      lines = one.lines ∙ ap (λ (l : List Numbered). lines_in one.answered ++ l) other.lines
+          ∙ sym (append_assoc (lines_in one.answered) (lines_in other.answered) c.lines)
+          ∙ ap (λ (l : List Numbered). l ++ c.lines) (sym (map-append (λ (a : ℕ × Exchange). numbered a.0 a.1.asked) one.answered other.answered));
+      replies = other.replies ∙ ap (λ (l : List ReplyData). l ++ replies_of more) one.replies
+          ∙ append_assoc a.replies (replies_of es) (replies_of more)
+          ∙ ap (λ (l : List ReplyData). a.replies ++ l) (sym (map-append (λ (e : Exchange). e.reply) es more))
+          ∙ ap (λ (l : List Exchange). a.replies ++ replies_of l) (sym both);
+      found = other.found ∙ ap (λ (f : Findings). with_findings f (found_in (replies_in other.answered))) one.found
+          ∙ with_both a.found (replies_in one.answered) (replies_in other.answered)
+          ∙ ap (λ (l : List (ℕ × ReplyData)). with_findings a.found (found_in l))
+          (sym (map-append (λ (a : ℕ × Exchange). (a.0, a.1.reply)) one.answered other.answered));
+      fit = subst AllFit (sym both) (All-append (λ (e : Exchange). FitsAsked e.asked e.reply) es more one.fit other.fit);
+      made = other.made ∙ ap (λ (l : List (CallData × ReplyData)). l ++ entries_for more) one.made
+          ∙ append_assoc (made_in a.pass) (entries_for es) (entries_for more)
+          ∙ ap (λ (l : List (CallData × ReplyData)). made_in a.pass ++ l)
+          (sym (flat_map-append (λ (e : Exchange). entry_for e.asked e.reply) es more))
+          ∙ ap (λ (l : List Exchange). made_in a.pass ++ entries_for l) (sym both);
+      number = other.number ∙ one.number;
+    }
 
 -- a line leaves the queue and its reply is put last
-pub answered_next : (name : Option (List ℕ)) (asked later : List AskedLine) (line : AskedLine) (pass after : Option Known)
-    (replies now : List Reply) (reply : Reply) (old : Job) → job name (map asked_data asked) pass (map reply_data replies) ≡ old
-    → asked ≡ line ∷ later → now ≡ replies ++ reply ∷ [] → AnswersIn pass (asked_data line) (reply_data reply) after
-    → Answered old (job name (map asked_data later) after (map reply_data now)) × (length (map asked_data later) < length old.asked)
-answered_next name asked later line pass after replies now reply old is front grown answers =
-    subst (λ (o : Job). Answered o (job name (map asked_data later) after (map reply_data now)) × (length (map asked_data later) < length o.asked)) is (answered, fewer) where
-      answered : Answered (job name (map asked_data asked) pass (map reply_data replies)) (job name (map asked_data later) after (map reply_data now))
+pub answered_next : (name : Option (List ℕ)) (lines later : List NumberedLine) (line : NumberedLine) (pass after : Option Known)
+    (replies now : List Reply) (reply : Reply) (found more : Findings) (old : Job)
+    → job name (map line_data lines) pass (map reply_data replies) found ≡ old
+    → lines ≡ line ∷ later → now ≡ replies ++ reply ∷ [] → AnswersIn pass (asked_data line.asked) (reply_data reply) after
+    → more ≡ with_findings found (found_in ((line.number, reply_data reply) ∷ []))
+    → Answered old (job name (map line_data later) after (map reply_data now) more) × (length (map line_data later) < length old.lines)
+answered_next name lines later line pass after replies now reply found more old is front grown answers finds =
+    let left : Job = job name (map line_data later) after (map reply_data now) more in
+    subst (λ (o : Job). Answered o left × (length (map line_data later) < length o.lines)) is (answered, fewer) where
+      answered : Answered (job name (map line_data lines) pass (map reply_data replies) found) (job name (map line_data later) after (map reply_data now) more)
       answered = record {
-        exchanges = exchange (asked_data line) (reply_data reply) ∷ [];
+        answered = (line.number, exchange (asked_data line.asked) (reply_data reply)) ∷ [];
         name = refl;
-        asked = ap (map asked_data) front;
+        lines = ap (map line_data) front;
         replies = ap (map reply_data) grown ∙ map-append reply_data replies (reply ∷ []);
-        fit = All-cons (λ (e : Exchange). FitsAsked e.asked e.reply) (exchange (asked_data line) (reply_data reply)) [] answers.fit
+        found = finds;
+        fit = All-cons (λ (e : Exchange). FitsAsked e.asked e.reply) (exchange (asked_data line.asked) (reply_data reply)) [] answers.fit
             (All-nil (λ (e : Exchange). FitsAsked e.asked e.reply));
-        made = answers.made ∙ ap (λ (l : List (CallData × ReplyData)). made_in pass ++ l) (sym (append-nil (entry_for (asked_data line) (reply_data reply))));
+        made = answers.made ∙ ap (λ (l : List (CallData × ReplyData)). made_in pass ++ l)
+            (sym (append-nil (entry_for (asked_data line.asked) (reply_data reply))));
         number = answers.number;
       }
 
-      fewer : length (map asked_data later) < length (map asked_data asked)
-      fewer = let long : length (map asked_data asked) ≡ suc (length (map asked_data later)) = ap (λ (l : List AskedLine). length (map asked_data l)) front in omega arith
+      fewer : length (map line_data later) < length (map line_data lines)
+      fewer = let long : length (map line_data lines) ≡ suc (length (map line_data later)) = ap (λ (l : List NumberedLine). length (map line_data l)) front in omega arith
+
+-- the line that leaves the queue has a reply, where all of them do
+pub first_replied : (name : Option (List ℕ)) (lines later : List NumberedLine) (line : NumberedLine) (pass : Option Known) (replies : List ReplyData)
+    (found : Findings) (old : Job) → job name (map line_data lines) pass replies found ≡ old → lines ≡ line ∷ later
+    → All (λ line. has_reply line.asked ≡ true) old.lines → has_reply (asked_data line.asked) ≡ true
+first_replied name lines later line pass replies found old is front all =
+    let here : old.lines ≡ line_data line ∷ map line_data later = sym (ap (λ (j : Job). j.lines) is) ∙ ap (map line_data) front in
+    subst (All (λ (l : Numbered). has_reply l.asked ≡ true)) here all 0 (line_data line) (omega arith)
 
 -- what is left of lines that have replies has replies
-pub replied_rest : {a b : Job} → Answered a b → All (λ asked. has_reply asked ≡ true) a.asked → All (λ asked. has_reply asked ≡ true) b.asked
+pub replied_rest : {a b : Job} → Answered a b → All (λ line. has_reply line.asked ≡ true) a.lines → All (λ line. has_reply line.asked ≡ true) b.lines
 replied_rest {a} {b} answered all =
-    rest (asked_of answered.exchanges) b.asked (subst (All (λ (l : Asked). has_reply l ≡ true)) answered.asked all) where
-      rest : (front back : List Asked) → All (λ asked. has_reply asked ≡ true) (front ++ back) → All (λ asked. has_reply asked ≡ true) back
+    rest (lines_in answered.answered) b.lines (subst (All (λ (l : Numbered). has_reply l.asked ≡ true)) answered.lines all) where
+      rest : (front back : List Numbered) → All (λ line. has_reply line.asked ≡ true) (front ++ back) → All (λ line. has_reply line.asked ≡ true) back
       rest [] back each = each
       rest (first ∷ front) back each = rest front back (λ k d below. each (suc k) d (omega arith))
 
@@ -100,26 +128,31 @@ pub list_any-map : {X Y : Type 0} (test : Y → Bool) (change : X → Y) (xs : L
 list_any-map test change [] = refl
 list_any-map test change (x ∷ xs) = ap (λ b. test (change x) || b) (list_any-map test change xs)
 
-module _ (number : ℕ) (name : Option (List ℕ)) (asked : List AskedLine) (replies : List Reply) (of : Group)
-    (is : group name (map asked_data asked) ≡ of) (empty : replies ≡ []) where
+module _ (number : ℕ) (name : Option (List ℕ)) (lines : List NumberedLine) (replies : List Reply) (found : Findings) (of : Group)
+    (is : group name (map line_data lines) ≡ of) (empty : replies ≡ []) (nothing : found ≡ unanswered 0) where
+  -- this job, with this pass
+  abbrev now : Option Known → Job
+  now pass = job name (map line_data lines) pass (map reply_data replies) found
+
+  -- it has no reply yet
+  starts : (pass : Option Known) → now pass ≡ begun of pass
+  starts pass =
+      ap₂ (λ (rs : List Reply) (f : Findings). job name (map line_data lines) pass (map reply_data rs) f) empty nothing
+      ∙ ap (λ (g : Group). begun g pass) is
+
   -- it has no pass
-  pub begins_without : (pass : Option Known) → pass ≡ None
-      → (job name (map asked_data asked) pass (map reply_data replies) ≡ begun of None) ⊎ Enters number of (job name (map asked_data asked) pass (map reply_data replies))
-  begins_without pass none =
-      inl (ap (λ (rs : List Reply). job name (map asked_data asked) pass (map reply_data rs)) empty ∙ ap (λ (p : Option Known). job name (map asked_data asked) p []) none
-      ∙ ap (λ (g : Group). begun g None) is)
+  pub begins_without : (pass : Option Known) → pass ≡ None → (now pass ≡ begun of None) ⊎ Enters number of (now pass)
+  begins_without pass none = inl (ap now none ∙ starts None)
 
   -- it has a call, and perhaps a pass
-  pub begins_with : (pass entered : Option Known) (calls : Bool) → calls ≡ list_any (λ line. is_call (asked_data line)) asked → calls ≡ true → pass ≡ entered
-      → IfSome entered (λ p. p ≡ newcomer number)
-      → (job name (map asked_data asked) pass (map reply_data replies) ≡ begun of None) ⊎ Enters number of (job name (map asked_data asked) pass (map reply_data replies))
+  pub begins_with : (pass entered : Option Known) (calls : Bool) → calls ≡ list_any (λ line. is_call (line_data line).asked) lines → calls ≡ true → pass ≡ entered
+      → IfSome entered (λ p. p ≡ newcomer number) → (now pass ≡ begun of None) ⊎ Enters number of (now pass)
   begins_with pass None calls found is_so same new = begins_without pass same
   begins_with pass (Some p) calls found is_so same new =
       inr (record {
-        calls = ap (λ (g : Group). list_any is_call g.asked) (sym is) ∙ list_any-map is_call asked_data asked ∙ sym found ∙ is_so;
-        begins_so = ap (λ (rs : List Reply). job name (map asked_data asked) pass (map reply_data rs)) empty
-            ∙ ap (λ (o : Option Known). job name (map asked_data asked) o []) (same ∙ ap (λ (k : Known). Some k) new)
-            ∙ ap (λ (g : Group). begun g (Some (newcomer number))) is;
+        calls = ap (λ (g : Group). list_any (λ (line : Numbered). is_call line.asked) g.lines) (sym is)
+            ∙ list_any-map (λ (line : Numbered). is_call line.asked) line_data lines ∙ sym found ∙ is_so;
+        begins_so = ap now (same ∙ ap (λ (k : Known). Some k) new) ∙ starts (Some (newcomer number));
       })
 
 -- the number of the next pass after a job with this pass, or with none

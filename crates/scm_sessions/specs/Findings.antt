@@ -1,6 +1,6 @@
 -- What a run found that a tester wants to know at once: the first line that was refused, and what questions were answered. This
 -- project's profile.
-use Rattle.std.specs.Prelude.{ℕ, ◌≡◌, ◌+◌, ◌-◌, ◌^◌, min, List, [], ◌∷◌, length, map, Bool, true, false, if◌then◌else◌, Option, None, Some, is_some}
+use Rattle.std.specs.Prelude.{ℕ, ◌≡◌, ◌+◌, List, [], ◌∷◌, length, map, Bool, true, false, ◌||◌, nat_le, if◌then◌else◌, Option, None, Some, is_some}
 use Rattle.std.specs.List.{list_any, zip}
 use Rattle.std.specs.Option.{option_map, option_or}
 use Rattle.scm_sequences.specs.declared.refusal.Refusal.{Refusal}
@@ -10,6 +10,7 @@ use Rattle.scm_sessions.specs.declared.findings.RefusedLine.{RefusedLine}
 use Rattle.scm_sessions.specs.Lines.{Line, lines_of}
 use Rattle.scm_sessions.specs.Asking.{asked_by}
 use Rattle.scm_sessions.specs.Exchanges.{Exchange, has_reply, RunsWhole}
+use Rattle.scm_sessions.specs.Numbered.{told}
 
 abbrev pub replies_of : List Exchange → List ReplyData
 replies_of exchanges = map (λ e. e.reply) exchanges
@@ -32,10 +33,6 @@ answers_inconsistent reply = false
 abbrev pub answers_undecided : ReplyData → Bool
 answers_undecided undecided = true
 answers_undecided reply = false
-
--- numbers of lines are told up to 2^64 - 1
-abbrev pub told : ℕ → ℕ
-told n = min n (2 ^ 64 - 1)
 
 -- the line of this number, where it was refused
 abbrev pub refused_line : ℕ → ReplyData → Option RefusedLine
@@ -85,3 +82,37 @@ with_reply found reply = record found {
 abbrev pub with_answer : Findings → List ReplyData → Findings
 with_answer found [] = with_line found
 with_answer found (reply ∷ others) = with_reply (with_line found) reply
+
+-- ---- where lines are not answered in their order
+
+-- the one of two refused lines that stands first
+abbrev pub earlier : Option RefusedLine → Option RefusedLine → Option RefusedLine
+earlier None other = other
+earlier (Some line) None = Some line
+earlier (Some line) (Some other) = if nat_le line.number other.number then Some line else Some other
+
+-- the first of the lines that were refused, each reply with the number of its line, in any order
+abbrev pub earliest_refused : List (ℕ × ReplyData) → Option RefusedLine
+earliest_refused [] = None
+earliest_refused (line ∷ lines) = earlier (refused_line line.0 line.1) (earliest_refused lines)
+
+-- what is found where so many lines were read, and none is answered yet
+abbrev pub unanswered : ℕ → Findings
+unanswered lines = record { lines = told lines; refused = None; is_inconsistent = false; is_undecided = false }
+
+-- what these replies say, each with the number of its line
+abbrev pub found_in : List (ℕ × ReplyData) → Findings
+found_in answered = record {
+  lines = 0;
+  refused = earliest_refused answered;
+  is_inconsistent = list_any answers_inconsistent (map (λ line. line.1) answered);
+  is_undecided = list_any answers_undecided (map (λ line. line.1) answered);
+}
+
+-- with what was found in other lines too
+abbrev pub with_findings : Findings → Findings → Findings
+with_findings found other = record found {
+  refused = earlier found.refused other.refused;
+  is_inconsistent = found.is_inconsistent || other.is_inconsistent;
+  is_undecided = found.is_undecided || other.is_undecided;
+}

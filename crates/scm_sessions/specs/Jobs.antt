@@ -1,11 +1,14 @@
 -- The sessions of a run in groups: each group of lines is a job, with the pass of its session, if it has one. This project's
 -- profile.
-use Rattle.std.specs.Prelude.{ℕ, ◌≡◌, ◌⊎◌, ◌+◌, ⊤, List, [], ◌∷◌, ◌++◌, map, flat_map, Bool, true, false, Option, None, Some}
+use Rattle.std.specs.Prelude.{ℕ, ◌≡◌, ◌⊎◌, ◌+◌, ⊤, List, [], ◌∷◌, ◌++◌, fold, map, flat_map, Bool, true, false, Option, None, Some}
 use Rattle.std.specs.List.{list_any}
 use Rattle.scm_book.specs.Calls.{CallData, ReplyData}
 use Rattle.scm_shared.specs.Passes.{Known, newcomer}
+use Rattle.scm_sessions.specs.declared.findings.Findings.{Findings}
 use Rattle.scm_sessions.specs.Asking.{Asked, good}
-use Rattle.scm_sessions.specs.Exchanges.{Exchange, asked_of}
+use Rattle.scm_sessions.specs.Exchanges.{Exchange}
+use Rattle.scm_sessions.specs.Numbered.{Numbered, numbered}
+use Rattle.scm_sessions.specs.Findings.{replies_of, unanswered, found_in, with_findings}
 use Rattle.scm_sessions.specs.Replies.{reply_line}
 use Rattle.scm_sessions.specs.SharedRuns.{AllFit}
 use Rattle.scm_sessions.specs.Groups.{Group}
@@ -14,15 +17,17 @@ use Rattle.scm_sessions.specs.Gathered.{made_in, number_in, entry_for}
 pub record Job : Type 0 where
   -- the name of the group, None for lines without one
   pub name : Option (List ℕ)
-  -- what its lines ask that have no reply yet, in order
-  pub asked : List Asked
+  -- those of its lines that have no reply yet, in order
+  pub lines : List Numbered
   -- the pass of its session, where that entered
   pub pass : Option Known
   -- the replies to its lines, in order
   pub replies : List ReplyData
+  -- what they say
+  pub found : Findings
 
-abbrev pub job : Option (List ℕ) → List Asked → Option Known → List ReplyData → Job
-job name asked pass replies = record { name = name; asked = asked; pass = pass; replies = replies }
+abbrev pub job : Option (List ℕ) → List Numbered → Option Known → List ReplyData → Findings → Job
+job name lines pass replies found = record { name = name; lines = lines; pass = pass; replies = replies; found = found }
 
 -- ---- how jobs begin
 
@@ -31,11 +36,11 @@ is_call (good name call) = true
 is_call asked = false
 
 abbrev pub begun : Group → Option Known → Job
-begun group pass = job group.name group.asked pass []
+begun group pass = job group.name group.lines pass [] (unanswered 0)
 
 -- the group has a call, and entered with this number
 pub record Enters (number : ℕ) (group : Group) (begins : Job) : Type 0 where
-  pub calls : list_any is_call group.asked ≡ true
+  pub calls : list_any (λ line. is_call line.asked) group.lines ≡ true
   pub begins_so : begins ≡ begun group (Some (newcomer number))
 
 -- these are the jobs of the groups: each has no pass, or the next one from this number on
@@ -47,33 +52,46 @@ AreBegun number groups jobs = ⊥
 
 -- ---- how jobs go on
 
-abbrev pub replies_in : List Exchange → List ReplyData
-replies_in exchanges = map (λ e. e.reply) exchanges
-
 -- the calls of these exchanges that became entries, with their replies
 abbrev pub entries_for : List Exchange → List (CallData × ReplyData)
 entries_for exchanges = flat_map (λ e. entry_for e.asked e.reply) exchanges
 
+-- the lines of exchanges, each with its number
+abbrev pub lines_in : List (ℕ × Exchange) → List Numbered
+lines_in answered = map (λ a. numbered a.0 a.1.asked) answered
+
+abbrev pub exchanges_in : List (ℕ × Exchange) → List Exchange
+exchanges_in answered = map (λ a. a.1) answered
+
+-- the replies of exchanges, each with the number of its line
+abbrev pub replies_in : List (ℕ × Exchange) → List (ℕ × ReplyData)
+replies_in answered = map (λ a. (a.0, a.1.reply)) answered
+
 -- the next lines of a job were answered, as these exchanges say
 pub record Answered (old new : Job) : Type 0 where
-  pub exchanges : List Exchange
+  pub answered : List (ℕ × Exchange)
   pub name : new.name ≡ old.name
-  pub asked : old.asked ≡ asked_of exchanges ++ new.asked
-  pub replies : new.replies ≡ old.replies ++ replies_in exchanges
-  pub fit : AllFit exchanges
-  pub made : made_in new.pass ≡ made_in old.pass ++ entries_for exchanges
+  pub lines : old.lines ≡ lines_in answered ++ new.lines
+  pub replies : new.replies ≡ old.replies ++ replies_of (exchanges_in answered)
+  pub found : new.found ≡ with_findings old.found (found_in (replies_in answered))
+  pub fit : AllFit (exchanges_in answered)
+  pub made : made_in new.pass ≡ made_in old.pass ++ entries_for (exchanges_in answered)
   pub number : number_in new.pass ≡ number_in old.pass
 
 -- all lines of a job were answered
 pub record AnsweredWhole (old new : Job) : Type 0 where
   pub answered : Answered old new
-  pub ended : new.asked ≡ []
+  pub ended : new.lines ≡ []
 
 -- all lines of these jobs were answered
 abbrev pub AllAnswered : List Job → List Job → Type 0
 AllAnswered [] [] = ⊤
 AllAnswered (old ∷ olds) (new ∷ news) = AnsweredWhole old new × AllAnswered olds news
 AllAnswered olds news = ⊥
+
+-- what was found, with what the replies of these jobs say
+abbrev pub with_jobs : Findings → List Job → Findings
+with_jobs found jobs = fold (λ f job. with_findings f job.found) found jobs
 
 -- ---- what is written of jobs, and what they give to the audit
 

@@ -6,8 +6,9 @@ pub mod Commands
 pub mod Asking
 pub mod Replies
 pub mod Exchanges
-pub mod Groups
+pub mod Numbered
 pub mod Findings
+pub mod Groups
 pub mod Script
 pub mod Answering
 pub mod Callers

@@ -4,17 +4,18 @@ ghost use Rattle.scm_book.specs.Journal.{IsLegalBook};
 ghost use Rattle.scm_sessions.specs.Ports.{inner_of, has_failed};
 ghost use Rattle.scm_sessions.specs.JournalText.{AreNamed};
 ghost use Rattle.scm_sessions.specs.Exchanges.{has_reply};
+ghost use Rattle.scm_sessions.specs.Findings.{unanswered};
 ghost use Rattle.scm_sessions.specs.Jobs.{AllAnswered};
 ghost use Rattle.scm_sessions.specs.Groups.{GroupsWhole, GroupsWholeLines};
 ghost use Rattle.scm_sessions.specs.SharedRuns.{AllFit, IsSharedRun};
-ghost use Rattle.scm_sessions.specs.EachRuns.{RunsGroups, RunsGroupsWholeLines, RunsGroupsPart};
+ghost use Rattle.scm_sessions.specs.EachRuns.{FindsGroups, RunsGroupsWholeLines, RunsGroupsPart};
 
 use crate::group_answers::answer_beside_workers;
-use crate::group_ends::{gathered, room_for, write_groups};
+use crate::group_ends::{add_findings, gathered, room_for, write_groups};
 use crate::groups::{Group, Groups};
 use crate::jobs::{Job, jobs_of};
 use crate::reading::LineReader;
-use crate::{Ended, Port, RunFault};
+use crate::{Ended, Findings, Port, RunFault};
 use scm_expand::Gate;
 use scm_results::Tally;
 use scm_shared::{BookNaming, BookToken, SharedBook};
@@ -23,18 +24,24 @@ use std::io::{Read, Write};
 use std::sync::Wait;
 use std::thread::Threads;
 
-/// The groups of the lines of a script, or of its whole lines before a read that failed. Fails where memory is refused.
-fn read_groups<R: Read>(alloc: Global, reader: &mut Port<R>) -> Result<Vec<Group>, RunFault>
-    requires { has_failed reader.old ≡ false }
+/// The groups of the lines of a script, or of its whole lines before a read that failed. The lines are counted among the
+/// findings. Fails where memory is refused.
+fn read_groups<R: Read>(
+    alloc: Global,
+    reader: &mut Port<R>,
+    findings: &mut Findings,
+) -> Result<Vec<Group>, RunFault>
+    requires reads { has_failed reader.old ≡ false }
+    requires uncounted { findings.old ≡ unanswered 0 }
     ensures whole { IfOk result (λ groups. has_failed reader.new ≡ false →
-        GroupsWhole (R.remaining (inner_of reader.old)) (R.remaining (inner_of reader.new)) groups.items) }
+        GroupsWhole (R.remaining (inner_of reader.old)) (R.remaining (inner_of reader.new)) groups.items findings.new) }
     ensures whole_lines { IfOk result (λ groups. has_failed reader.new ≡ true →
         GroupsWholeLines (R.remaining (inner_of reader.old)) (R.remaining (inner_of reader.new)) groups.items) }
     ensures fault { IfErr result (λ fault. fault ≡ RunFault.NoMemory) }
 {
     let mut lines = LineReader::new(alloc)?;
     let mut groups = Groups::new(alloc);
-    match groups.read(&mut lines, reader) {
+    match groups.read(&mut lines, reader, findings) {
         Ok(()) | Err(RunFault::ReadFailed) => Ok(groups.into_groups()),
         Err(_) => Err(RunFault::NoMemory),
     }
@@ -49,7 +56,7 @@ fn answer_jobs<B: BookNaming + Send + Sync, G: Gate + Sync, T: Threads + Wait + 
     gate: &G,
     workers: usize,
 ) -> Vec<Tally<B>>
-    requires { All (λ group. All (λ asked. has_reply asked ≡ true) group.asked) jobs.old.items }
+    requires { All (λ group. All (λ line. has_reply line.asked ≡ true) group.lines) jobs.old.items }
     ensures answered { AllAnswered jobs.old.items jobs.new.items }
     ensures each { length jobs.new.items ≡ length jobs.old.items }
 {
@@ -59,7 +66,8 @@ fn answer_jobs<B: BookNaming + Send + Sync, G: Gate + Sync, T: Threads + Wait + 
 /// Runs a script over a new book with a thread for each session, while `workers` threads and a collector look for situations
 /// that questions will want. The script is read whole, and its lines are grouped by the names that they begin with, in the order
 /// in which they first come; lines without a name are a group too. The names with a call enter in this order, then the lines of
-/// each are answered in a thread of its own, and at the end the replies are written group by group.
+/// each are answered in a thread of its own, and at the end the replies are written group by group. What was found goes into
+/// `findings`, as in a run in the order of the lines: the first refused line is that of the smallest number.
 ///
 /// Where a read fails, the whole lines before it are answered and their replies written. Ends as `run_with_workers` does. It
 /// fails with `NoMemory` before a line is answered alone; a line for which memory is refused later is answered so.
@@ -75,6 +83,7 @@ pub fn run_each<
     token: BookToken,
     reader: &mut Port<R>,
     writer: &mut Port<W>,
+    findings: &mut Findings,
     gate: &G,
     workers: usize,
 ) -> Result<Ended, RunFault>
@@ -83,8 +92,8 @@ pub fn run_each<
     requires table { token.table.shared.table_id ≡ B.table }
     requires made { (token.made.name ≡ B.made) × (token.made.parts ≡ B.seats) }
     requires totals { (token.totals.taken.name ≡ B.taken) × (token.totals.delivered.name ≡ B.delivered) × (token.totals.taken.parts ≡ B.parts) }
-    ensures ok { IfOk result (λ ended. RunsGroups (R.remaining (inner_of reader.old)) (R.remaining (inner_of reader.new))
-        (W.contents (inner_of writer.old)) (W.contents (inner_of writer.new)) (IsSharedRun ended)) }
+    ensures ok { IfOk result (λ ended. FindsGroups (R.remaining (inner_of reader.old)) (R.remaining (inner_of reader.new))
+        (W.contents (inner_of writer.old)) (W.contents (inner_of writer.new)) (IsSharedRun ended) findings.new) }
     ensures named { IfOk result (λ ended. IsTrue ended.audit.agreed → AreNamed ended.names.items ended.audit.book.journal) }
     ensures legal { IfOk result (λ ended. IsLegalBook ended.audit.book) }
     ensures read_failed { IsErrOf result RunFault.ReadFailed →
@@ -98,7 +107,8 @@ pub fn run_each<
     ensures writer_failed { IsErrOf result RunFault.WriteFailed ↔ (has_failed writer.new ≡ true) }
     ensures no_memory { IsErrOf result RunFault.NoMemory → writer.new ≡ writer.old }
 {
-    let groups = read_groups(alloc, reader)?;
+    let mut found = Findings::new();
+    let groups = read_groups(alloc, reader, &mut found)?;
     let book = SharedBook::<B>::new(alloc, token);
     let mut jobs = jobs_of(rt, alloc, &book, groups)?;
     let (mut names, passes) = room_for(alloc, jobs.len())?;
@@ -107,6 +117,8 @@ pub fn run_each<
     if reader.failed() {
         return Err(RunFault::ReadFailed);
     }
+    add_findings(&mut found, jobs.as_slice());
+    *findings = found;
     let passes = gathered(jobs, &mut names, passes);
     Ok(Ended {
         audit: book.audit(passes, tallies),

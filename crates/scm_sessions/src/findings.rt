@@ -1,8 +1,8 @@
 //! What a run found that a tester wants to know at once.
-ghost use Rattle.std.specs.Prelude.{◌≡◌, [], option_copied};
+ghost use Rattle.std.specs.Prelude.{◌≡◌, [], ◌∷◌, option_copied};
 ghost use Rattle.scm_book.specs.Calls.{reply_data};
 ghost use Rattle.scm_sessions.specs.Answering.{answer_replies};
-ghost use Rattle.scm_sessions.specs.Findings.{findings_of, refusal_in, answers_inconsistent, answers_undecided, status_of, with_answer, with_line, with_reply};
+ghost use Rattle.scm_sessions.specs.Findings.{findings_of, refusal_in, answers_inconsistent, answers_undecided, earlier as earlier_line, found_in, refused_line, status_of, with_answer, with_findings, with_line, with_reply};
 
 use crate::replies::Answer;
 use scm_book::Reply;
@@ -51,6 +51,29 @@ fn says_undecided(reply: &Reply) -> bool
     matches!(reply, Reply::Undecided)
 }
 
+/// The line of this number, where the reply says that it was refused.
+fn line_refused(number: u64, reply: &Reply) -> Option<RefusedLine>
+    ensures { result ≡ refused_line number (reply_data reply.now) }
+{
+    let refusal = refusal_of(reply)?;
+    Some(RefusedLine { number, refusal })
+}
+
+/// The one of two refused lines that stands first.
+fn earlier(one: Option<RefusedLine>, other: Option<RefusedLine>) -> Option<RefusedLine>
+    ensures { result ≡ earlier_line one other }
+{
+    match (one, other) {
+        (Some(line), Some(next)) => Some(if line.number <= next.number {
+            line
+        } else {
+            next
+        }),
+        (None, _) => other,
+        (_, None) => one,
+    }
+}
+
 impl Findings {
     /// What is found before the first line.
     pub fn new() -> Findings
@@ -87,8 +110,15 @@ impl Findings {
         }
     }
 
+    /// How many lines were read.
+    pub(crate) fn lines(&self) -> u64
+        ensures { result ≡ self.now.lines }
+    {
+        self.lines
+    }
+
     /// One line more was read.
-    fn add_line(&mut self)
+    pub(crate) fn add_line(&mut self)
         ensures { self.new ≡ with_line self.old }
     {
         self.lines = self.lines.saturating_add(1);
@@ -116,5 +146,23 @@ impl Findings {
         if let Some(answer) = answer {
             self.add_reply(&answer.reply);
         }
+    }
+
+    /// This is the reply to the line of this number, whichever lines were answered before it.
+    pub(crate) fn add_reply_to(&mut self, number: u64, reply: &Reply)
+        ensures { self.new ≡ with_findings self.old (found_in ((number, reply_data reply.now) ∷ [])) }
+    {
+        self.refused = earlier(self.refused, line_refused(number, reply));
+        self.is_inconsistent |= says_inconsistent(reply);
+        self.is_undecided |= says_undecided(reply);
+    }
+
+    /// This was found in other lines of the script.
+    pub(crate) fn add_findings(&mut self, other: &Findings)
+        ensures { self.new ≡ with_findings self.old other.now }
+    {
+        self.refused = earlier(self.refused, other.refused);
+        self.is_inconsistent |= other.is_inconsistent;
+        self.is_undecided |= other.is_undecided;
     }
 }

@@ -8,6 +8,7 @@ ghost use Rattle.scm_sessions.specs.Jobs.{Answered, AnsweredWhole, AllAnswered};
 
 use crate::asking::Asked;
 use crate::jobs::Job;
+use crate::numbered::NumberedLine;
 use scm_book::Reply;
 use scm_expand::{Gate, run_workers};
 use scm_results::Tally;
@@ -39,21 +40,23 @@ fn reply_to<B: BookNaming, T: Wait>(
 
 /// Answers the next line of a group, and says whether there was one.
 fn answer_next<B: BookNaming, T: Wait>(rt: &T, book: &SharedBook<B>, group: &mut Job<B>) -> bool
-    requires { All (λ asked. has_reply asked ≡ true) group.old.asked }
-    ensures { MatchBool result (Answered group.old group.new × (length group.new.asked < length group.old.asked))
-        ((group.new ≡ group.old) × (group.old.asked ≡ [])) }
+    requires { All (λ line. has_reply line.asked ≡ true) group.old.lines }
+    ensures { MatchBool result (Answered group.old group.new × (length group.new.lines < length group.old.lines))
+        ((group.new ≡ group.old) × (group.old.lines ≡ [])) }
 {
-    let Some(asked) = group.asked.pop_front() else {
+    let Some(line) = group.lines.pop_front() else {
         return false;
     };
+    let NumberedLine { number, asked } = line;
     let reply = reply_to(rt, book, &mut group.pass, asked);
+    group.findings.add_reply_to(number, &reply);
     group.replies.push_reserved(reply);
     true
 }
 
 /// Answers the lines of a group, in order.
 fn answer_group<B: BookNaming, T: Wait>(rt: &T, book: &SharedBook<B>, group: &mut Job<B>)
-    requires { All (λ asked. has_reply asked ≡ true) group.old.asked }
+    requires { All (λ line. has_reply line.asked ≡ true) group.old.lines }
     ensures { AnsweredWhole group.old group.new }
 {
     'each: while answer_next(rt, book, group) {}
@@ -66,7 +69,7 @@ fn answer_groups<B: BookNaming + Send + Sync, T: Threads + Wait + Sync>(
     book: &SharedBook<B>,
     groups: &mut [Job<B>],
 )
-    requires { All (λ group. All (λ asked. has_reply asked ≡ true) group.asked) groups.old }
+    requires { All (λ group. All (λ line. has_reply line.asked ≡ true) group.lines) groups.old }
     ensures { AllAnswered groups.old groups.new }
 {
     thread::for_each_mut(
@@ -74,7 +77,7 @@ fn answer_groups<B: BookNaming + Send + Sync, T: Threads + Wait + Sync>(
         groups,
         MOST_SESSIONS,
         &|_: usize, group: &mut Job<B>|
-            requires { All (λ asked. has_reply asked ≡ true) group.old.asked }
+            requires { All (λ line. has_reply line.asked ≡ true) group.old.lines }
             ensures { AnsweredWhole group.old group.new }
         { answer_group(rt, book, group) },
     );
@@ -94,12 +97,12 @@ pub(crate) fn answer_beside_workers<
     gate: &G,
     workers: usize,
 ) -> Vec<Tally<B>>
-    requires { All (λ group. All (λ asked. has_reply asked ≡ true) group.asked) groups.old }
+    requires { All (λ group. All (λ line. has_reply line.asked ≡ true) group.lines) groups.old }
     ensures { AllAnswered groups.old groups.new }
 {
     let mut work = || run_workers::<B, SharedBook<B>, G, T>(rt, alloc, book, gate, workers);
     let mut answer = ||
-        requires { All (λ group. All (λ asked. has_reply asked ≡ true) group.asked) groups.now }
+        requires { All (λ group. All (λ line. has_reply line.asked ≡ true) group.lines) groups.now }
     { answer_groups(rt, book, groups) };
     let (tallies, ()) = join_mut(rt, &mut work, &mut answer);
     tallies.unwrap_or(Vec::new(alloc))

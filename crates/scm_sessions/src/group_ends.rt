@@ -3,10 +3,11 @@ ghost use Rattle.std.specs.Prelude.{◌≡◌, ◌≤◌, ◌<◌, ◌++◌, [],
 ghost use Rattle.scm_book.specs.Calls.{reply_data};
 ghost use Rattle.scm_sessions.specs.Ports.{inner_of, has_failed, Writes, Sends};
 ghost use Rattle.scm_sessions.specs.Replies.{reply_line};
-ghost use Rattle.scm_sessions.specs.Jobs.{job_text, jobs_text, names_in, passes_in, entered_names, entered_passes};
+ghost use Rattle.scm_sessions.specs.Findings.{with_findings};
+ghost use Rattle.scm_sessions.specs.Jobs.{job_text, jobs_text, with_jobs, names_in, passes_in, entered_names, entered_passes};
 
 use crate::jobs::Job;
-use crate::{Port, RunFault};
+use crate::{Findings, Port, RunFault};
 use scm_book::Reply;
 use scm_cells::Name;
 use scm_sequences::NoMemory;
@@ -61,6 +62,22 @@ pub(crate) fn write_groups<B: BookNaming, W: Write>(
     }
     writer.flush()?;
     Ok(())
+}
+
+/// Adds what was found in this group.
+fn add_group<B: BookNaming>(findings: &mut Findings, group: &Job<B>)
+    ensures { findings.new ≡ with_findings findings.old group.now.found }
+{
+    findings.add_findings(&group.findings);
+}
+
+/// Adds what was found in these groups.
+pub(crate) fn add_findings<B: BookNaming>(findings: &mut Findings, groups: &[Job<B>])
+    ensures { findings.new ≡ with_jobs findings.old groups.now }
+{
+    for group in groups {
+        add_group(findings, group);
+    }
 }
 
 /// Room for the names and the passes of so many sessions.

@@ -6,11 +6,14 @@ ghost use Rattle.scm_sessions.specs.Asking.{asked_data, name_in};
 ghost use Rattle.scm_sessions.specs.Exchanges.{has_reply as has_reply_data};
 ghost use Rattle.scm_sessions.specs.Ports.{inner_of, has_failed};
 ghost use Rattle.scm_sessions.specs.Reading.{unread_of};
-ghost use Rattle.scm_sessions.specs.Groups.{group, has_name, with_asked, with_line, with_name, GroupsWhole, GroupsWholeLines};
+ghost use Rattle.scm_sessions.specs.Numbered.{line_data};
+ghost use Rattle.scm_sessions.specs.Findings.{unanswered, with_line};
+ghost use Rattle.scm_sessions.specs.Groups.{group, has_name, with_numbered, with_next, with_name, GroupsWhole, GroupsWholeLines};
 
 use crate::asking::{Asked, read_asked};
+use crate::numbered::NumberedLine;
 use crate::reading::{Cut, LineReader};
-use crate::{Port, RunFault};
+use crate::{Findings, Port, RunFault};
 use indexmap::IndexSet;
 use scm_cells::Name;
 use scm_sequences::NoMemory;
@@ -19,14 +22,14 @@ use std::collections::VecDeque;
 use std::io::Read;
 use std::marker::Model;
 
-/// What the lines of one name ask, in order; of lines without a name, where it has none.
+/// The lines of one name, in order; those without a name, where it has none.
 #[derive(Drop)]
 pub(crate) struct Group {
     pub(crate) name: Option<Name>,
-    pub(crate) asked: VecDeque<Asked>,
+    pub(crate) lines: VecDeque<NumberedLine>,
 }
 
-/// What the lines of a script ask, in groups by name.
+/// The lines of a script that have a reply, in groups by name.
 #[derive(Drop)]
 pub(crate) struct Groups {
     alloc: Global,
@@ -36,12 +39,12 @@ pub(crate) struct Groups {
 
 impl Model for Group {
     ghost use Rattle.std.specs.Prelude.{map};
-    ghost use Rattle.scm_sessions.specs.Asking.{asked_data};
+    ghost use Rattle.scm_sessions.specs.Numbered.{line_data};
     ghost use Rattle.scm_sessions.specs.Groups.{Group as GroupData, group};
 
     ghost Value = { GroupData };
 
-    ghost view = { λ g. group g.name (map asked_data g.asked.items) };
+    ghost view = { λ g. group g.name (map line_data g.lines.items) };
 }
 
 impl Model for Groups {
@@ -80,16 +83,16 @@ impl Group {
     {
         Group {
             name,
-            asked: VecDeque::new(alloc),
+            lines: VecDeque::new(alloc),
         }
     }
 
-    /// Puts what a line asks last.
-    fn push(&mut self, asked: Asked) -> Result<(), NoMemory>
+    /// Puts a line last.
+    fn push(&mut self, line: NumberedLine) -> Result<(), NoMemory>
         ensures name { self.new.name ≡ self.old.name }
-        ensures ok { OnOk result (self.new ≡ group self.old.name (self.old.asked ++ asked_data asked ∷ [])) }
+        ensures ok { OnOk result (self.new ≡ group self.old.name (self.old.lines ++ line_data line ∷ [])) }
     {
-        self.asked.push_back(asked)?;
+        self.lines.push_back(line)?;
         Ok(())
     }
 }
@@ -122,22 +125,23 @@ impl Groups {
         Ok(place)
     }
 
-    /// Puts what a line asks into the group of its name.
-    fn push(&mut self, asked: Asked) -> Result<(), NoMemory>
-        ensures { OnOk result (self.new ≡ with_asked self.old (asked_data asked)) }
+    /// Puts a line into the group of its name.
+    fn push(&mut self, line: NumberedLine) -> Result<(), NoMemory>
+        ensures { OnOk result (self.new ≡ with_numbered self.old (line_data line)) }
     {
-        let place = self.place_of(&asked)?;
-        self.groups[place].push(asked)
+        let place = self.place_of(&line.asked)?;
+        self.groups[place].push(line)
     }
 
-    /// Puts what a line asks into the group of its name, where it has a reply; `None` stands for a line that is too long.
-    fn push_line(&mut self, line: Option<&[u8]>) -> Result<(), NoMemory>
-        ensures { OnOk result (self.new ≡ with_line self.old (line_given (option_copied line.entry))) }
+    /// Puts the line of this number into the group of its name, where it has a reply; `None` stands for a line that is too
+    /// long.
+    fn push_line(&mut self, number: u64, line: Option<&[u8]>) -> Result<(), NoMemory>
+        ensures { OnOk result (self.new ≡ with_next self.old number (line_given (option_copied line.entry))) }
     {
         match read_asked(self.alloc, line) {
             Ok(asked) => {
                 if has_reply(&asked) {
-                    return self.push(asked);
+                    return self.push(NumberedLine { number, asked });
                 }
                 Ok(())
             }
@@ -145,16 +149,29 @@ impl Groups {
         }
     }
 
-    /// Reads the script up to its end or to a fault, and groups its whole lines. Memory may be refused at any of them.
+    /// Counts the next line, and puts it into the group of its name, where it has a reply.
+    fn push_next(&mut self, line: Option<&[u8]>, findings: &mut Findings) -> Result<(), NoMemory>
+        ensures counted { findings.new ≡ with_line findings.old }
+        ensures groups { OnOk result (self.new ≡ with_next self.old findings.new.lines (line_given (option_copied line.entry))) }
+    {
+        findings.add_line();
+        self.push_line(findings.lines(), line)
+    }
+
+    /// Reads the script up to its end or to a fault, and groups its whole lines, which are counted among the findings. Memory
+    /// may be refused at any of them.
     pub(crate) fn read<R: Read>(
         &mut self,
         lines: &mut LineReader,
         reader: &mut Port<R>,
+        findings: &mut Findings,
     ) -> Result<(), RunFault>
         requires new { self.old ≡ [] }
+        requires uncounted { findings.old ≡ unanswered 0 }
         requires fresh { unread_of lines.old ≡ [] }
         requires reads { has_failed reader.old ≡ false }
-        ensures ok { OnOk result (GroupsWhole (R.remaining (inner_of reader.old)) (R.remaining (inner_of reader.new)) self.new) }
+        ensures ok { OnOk result (GroupsWhole (R.remaining (inner_of reader.old)) (R.remaining (inner_of reader.new))
+            self.new findings.new) }
         ensures read_failed { IsErrOf result RunFault.ReadFailed →
             GroupsWholeLines (R.remaining (inner_of reader.old)) (R.remaining (inner_of reader.new)) self.new }
         ensures reader_failed { IsErrOf result RunFault.ReadFailed ↔ (has_failed reader.new ≡ true) }
@@ -162,9 +179,9 @@ impl Groups {
     {
         'each: loop {
             match lines.next_line(reader)? {
-                Cut::Whole => self.push_line(lines.line())?,
+                Cut::Whole => self.push_next(lines.line(), findings)?,
                 Cut::Last => {
-                    self.push_line(lines.line())?;
+                    self.push_next(lines.line(), findings)?;
                     return Ok(());
                 }
                 Cut::End => return Ok(()),

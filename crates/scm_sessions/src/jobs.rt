@@ -3,11 +3,13 @@ ghost use Rattle.std.specs.Prelude.{◌≡◌, ◌+◌, ◌⊎◌, None, IfOk, I
 ghost use Rattle.std.specs.List.{list_any};
 ghost use Rattle.std.specs.Option.{option_map_or};
 ghost use Rattle.scm_shared.specs.Passes.{newcomer};
-ghost use Rattle.scm_sessions.specs.Asking.{asked_data};
+ghost use Rattle.scm_sessions.specs.Numbered.{line_data};
 ghost use Rattle.scm_sessions.specs.Jobs.{begun, is_call, AreBegun, Enters};
 
+use crate::Findings;
 use crate::asking::Asked;
 use crate::groups::Group;
+use crate::numbered::NumberedLine;
 use scm_book::Reply;
 use scm_cells::Name;
 use scm_sequences::NoMemory;
@@ -17,34 +19,37 @@ use std::collections::VecDeque;
 use std::marker::Model;
 use std::sync::Wait;
 
-/// A group while it runs: what its lines ask that have no reply yet, the pass of its session, where it has one, and the replies,
-/// for which there is room.
+/// A group while it runs: its lines that have no reply yet, the pass of its session, where it has one, the replies, for which
+/// there is room, and what they say.
 #[derive(Drop)]
 pub(crate) struct Job<B: BookNaming> {
     pub(crate) name: Option<Name>,
-    pub(crate) asked: VecDeque<Asked>,
+    pub(crate) lines: VecDeque<NumberedLine>,
     pub(crate) pass: Option<Pass<B>>,
     pub(crate) replies: Vec<Reply>,
+    pub(crate) findings: Findings,
 }
 
 impl<B: BookNaming> Model for Job<B> {
     ghost use Rattle.std.specs.Prelude.{◌+◌, ◌≤◌, length, map, vec_capacity};
     ghost use Rattle.scm_book.specs.Calls.{reply_data};
-    ghost use Rattle.scm_sessions.specs.Asking.{asked_data};
+    ghost use Rattle.scm_sessions.specs.Numbered.{line_data};
     ghost use Rattle.scm_sessions.specs.Jobs.{Job as JobData, job};
 
     ghost Value = { JobData };
 
-    ghost view = { λ j. job j.name (map asked_data j.asked.items) j.pass (map reply_data j.replies.items) };
+    ghost view = { λ j. job j.name (map line_data j.lines.items) j.pass (map reply_data j.replies.items) j.findings };
 
-    ghost invariant = { λ j. length j.asked.items + length j.replies.items ≤ vec_capacity j.replies };
+    ghost invariant = { λ j. length j.lines.items + length j.replies.items ≤ vec_capacity j.replies };
 }
 
 /// Whether one of these lines is a call.
-fn has_call(asked: &VecDeque<Asked>) -> bool
-    ensures { result ≡ list_any (λ line. is_call (asked_data line)) asked.now.items }
+fn has_call(lines: &VecDeque<NumberedLine>) -> bool
+    ensures { result ≡ list_any (λ line. is_call (line_data line).asked) lines.now.items }
 {
-    asked.iter().any(|line| matches!(line, Asked::Good { .. }))
+    lines
+        .iter()
+        .any(|line| matches!(line.asked, Asked::Good { .. }))
 }
 
 /// A new pass of the shared book, where it has one left and the number of the pass is this one.
@@ -68,18 +73,19 @@ fn job_of<B: BookNaming, T: Wait>(
 ) -> Result<Job<B>, NoMemory>
     ensures { IfOk result (λ begins. (begins ≡ begun group None) ⊎ Enters number group begins) }
 {
-    let Group { name, asked } = group;
-    let replies = Vec::with_capacity(alloc, asked.len())?;
-    let pass = if has_call(&asked) {
+    let Group { name, lines } = group;
+    let replies = Vec::with_capacity(alloc, lines.len())?;
+    let pass = if has_call(&lines) {
         entered(rt, book, number)
     } else {
         None
     };
     Ok(Job {
         name,
-        asked,
+        lines,
         pass,
         replies,
+        findings: Findings::new(),
     })
 }
 

@@ -17,6 +17,7 @@ mod group_ends;
 mod groups;
 mod jobs;
 mod journal;
+mod numbered;
 mod port;
 mod reading;
 mod replies;

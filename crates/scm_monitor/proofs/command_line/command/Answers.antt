@@ -13,6 +13,7 @@ returns-clause-described c =
     ∙ ap (on_top (λ top. record top { has_version = true })) (ap app_of_fields c.disable_help_flag.ensures
     ∙ ap (on_top (λ top. record top { disable_help_flag = true })) plain) in
     let first = c.in_ok-arg.ensures.shape c.workers_option.ensures.local ∙ ap₂ with_rule begun c.workers_option.ensures.rule in
-    let second = c.in_ok-arg-2.ensures.shape c.check_option.ensures.local ∙ ap₂ with_rule first c.check_option.ensures.rule in
-    let third = c.in_ok-arg-3.ensures.shape c.journal_option.ensures.local ∙ ap₂ with_rule second c.journal_option.ensures.rule in
-    c.in_ok-arg-4.ensures.shape c.help_option.ensures.local ∙ ap₂ with_rule third c.help_option.ensures.rule
+    let second = c.in_ok-arg-2.ensures.shape c.each_option.ensures.local ∙ ap₂ with_rule first c.each_option.ensures.rule in
+    let third = c.in_ok-arg-3.ensures.shape c.check_option.ensures.local ∙ ap₂ with_rule second c.check_option.ensures.rule in
+    let fourth = c.in_ok-arg-4.ensures.shape c.journal_option.ensures.local ∙ ap₂ with_rule third c.journal_option.ensures.rule in
+    c.in_ok-arg-5.ensures.shape c.help_option.ensures.local ∙ ap₂ with_rule fourth c.help_option.ensures.rule

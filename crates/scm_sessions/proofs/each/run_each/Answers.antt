@@ -1,6 +1,6 @@
 use Rattle.std.proofs.Common.{sym}
 use Rattle.scm_sessions.specs.Ports.{has_failed}
-use Rattle.scm_sessions.proofs.EachRuns.{ReadGroups-read, begun_reply, RunsGroups-shared, groups_named, RunsGroupsWholeLines-fit, RunsGroupsPart-fit}
+use Rattle.scm_sessions.proofs.EachRuns.{ReadGroups-read, begun_reply, FindsGroups-shared, groups_named, RunsGroupsWholeLines-fit, RunsGroupsPart-fit}
 use Rattle.scm_sessions.proofs.each.run_each.Goals as goal
 
 pub answer_jobs-tallies-requires-after_bounds : goal.answer_jobs-tallies-requires-after_bounds
@@ -24,8 +24,9 @@ pub returns-clause-ok : goal.returns-clause-ok
 returns-clause-ok g c =
     let whole = c.in_ok-groups.ensures.whole (sym c.if-failed.ensures) in
     let wrote = rw c.as_slice.ensures.value at c.in_ok-write_groups.ensures.bytes in
-    RunsGroups-shared _ _ c.in_ok-jobs.ensures c.answer_jobs-tallies.ensures.answered _ _ whole wrote c.gathered-passes.ensures.names
-    c.gathered-passes.ensures.passes c.audit.ensures.agreed.0
+    let found = rw c.as_slice-2.ensures.value at c.add_findings.ensures in
+    FindsGroups-shared _ _ c.in_ok-jobs.ensures c.answer_jobs-tallies.ensures.answered _ _ _ whole wrote c.gathered-passes.ensures.names
+    c.gathered-passes.ensures.passes c.audit.ensures.agreed.0 found
 
 pub returns-clause-named : goal.returns-clause-named
 returns-clause-named g c =

@@ -1,5 +1,8 @@
-use Rattle.scm_sessions.proofs.Replying.{Answered-more, replied_rest}
+use Rattle.scm_sessions.proofs.Replying.{Answered-none, Answered-more, replied_rest}
 use Rattle.scm_sessions.proofs.group_answers.answer_group.Goals as goal
+
+pub each-init : goal.each-init
+each-init g c = Answered-none _
 
 pub answer_next-requires : goal.answer_next-requires
 answer_next-requires g c = replied_rest c.each.invariant c.requires

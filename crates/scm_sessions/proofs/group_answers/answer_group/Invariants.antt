@@ -7,4 +7,4 @@ abbrev pub invariant-each : goal.invariant-each
 invariant-each g l = Answered l.fn.group l.group
 
 abbrev pub decreases-each : goal.decreases-each
-decreases-each g l = length l.group.asked
+decreases-each g l = length l.group.lines

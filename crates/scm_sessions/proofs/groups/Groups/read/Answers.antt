@@ -4,7 +4,7 @@ use Rattle.scm_sessions.proofs.groups.Groups.read.Goals as goal
 
 pub each-init : goal.each-init
 each-init g c = record {
-  grouped = HasGrouped-start _ _ _ c.requires.fresh c.requires.new;
+  grouped = HasGrouped-start _ _ _ _ c.requires.fresh c.requires.new c.requires.uncounted;
   reads = search rules;
 }
 
@@ -15,16 +15,16 @@ pub each-preserved : goal.each-preserved
 each-preserved g c = record {
   grouped =
       let takes = rw c.in-Whole.is at c.in_ok-next_line.ensures.ok in
-      let put = rw c.line.ensures at c.in_ok-push_line-in-Whole.ensures in
-      HasGrouped-more c.each.invariant.grouped _ _ _ takes put;
+      let put = rw c.line.ensures at c.in_ok-push_next-in-Whole.ensures.groups in
+      HasGrouped-more c.each.invariant.grouped _ _ _ _ takes c.in_ok-push_next-in-Whole.ensures.counted put;
   reads = search rules;
 }
 
 pub returns-in-Last-clause-ok : goal.returns-in-Last-clause-ok
 returns-in-Last-clause-ok g c =
     let takes = rw c.in-Last.is at c.in_ok-next_line.ensures.ok in
-    let put = rw c.line-in-Last.ensures at c.in_ok-push_line-in-Last.ensures in
-    GroupsWhole-last c.each.invariant.grouped _ _ _ _ takes put
+    let put = rw c.line-in-Last.ensures at c.in_ok-push_next-in-Last.ensures.groups in
+    GroupsWhole-last c.each.invariant.grouped _ _ _ _ _ takes c.push_next-in-Last.ensures.counted put
 
 pub returns-in-End-clause-ok : goal.returns-in-End-clause-ok
 returns-in-End-clause-ok g c =

@@ -7,7 +7,7 @@ use Rattle.scm_sessions.proofs.groups.Groups.read.Given as goal
 -- the lines that were taken so far stand in their groups
 abbrev pub invariant-each : goal.invariant-each
 invariant-each g l = record {
-  grouped : HasGrouped (g.R.Read.remaining (inner_of l.fn.reader)) (left_of g.R.Read.remaining l.lines l.reader) l.self;
+  grouped : HasGrouped (g.R.Read.remaining (inner_of l.fn.reader)) (left_of g.R.Read.remaining l.lines l.reader) l.self l.findings;
   reads : has_failed l.reader ≡ false;
 }
 

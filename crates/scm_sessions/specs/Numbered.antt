@@ -1,0 +1,42 @@
+-- The lines of a script with their numbers. This project's profile.
+use Rattle.std.specs.Prelude.{ℕ, ◌+◌, ◌-◌, ◌^◌, min, List, [], ◌∷◌, map, filter}
+use Rattle.scm_sessions.specs.declared.numbered.NumberedLine.{NumberedLine}
+use Rattle.scm_sessions.specs.Lines.{Line}
+use Rattle.scm_sessions.specs.Asking.{Asked, asked_by, asked_data}
+use Rattle.scm_sessions.specs.Exchanges.{has_reply}
+
+-- numbers of lines are told up to 2^64 - 1
+abbrev pub told : ℕ → ℕ
+told n = min n (2 ^ 64 - 1)
+
+pub record Numbered : Type 0 where
+  -- the number of a line in its script, from 1 on, as it is told
+  pub number : ℕ
+  -- what the line asks
+  pub asked : Asked
+
+abbrev pub numbered : ℕ → Asked → Numbered
+numbered number asked = record { number = number; asked = asked }
+
+-- what each of these lines asks, where the first one has this number
+abbrev pub numbered_from : ℕ → List Line → List Numbered
+numbered_from n [] = []
+numbered_from n (line ∷ lines) = numbered (told n) (asked_by line) ∷ numbered_from (n + 1) lines
+
+-- those of them that have a reply, in order
+abbrev pub replied : List Numbered → List Numbered
+replied lines = filter (λ line. has_reply line.asked) lines
+
+-- what those of a script's lines ask that have a reply, in order
+abbrev pub numbered_in : List Line → List Numbered
+numbered_in lines = replied (numbered_from 1 lines)
+
+abbrev pub all_asked : List Numbered → List Asked
+all_asked lines = map (λ line. line.asked) lines
+
+abbrev pub all_numbers : List Numbered → List ℕ
+all_numbers lines = map (λ line. line.number) lines
+
+-- a line as it was read
+abbrev pub line_data : NumberedLine → Numbered
+line_data line = numbered line.number (asked_data line.asked)
