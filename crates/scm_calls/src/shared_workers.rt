@@ -264,6 +264,33 @@ fn report_during_expand(rt: HostRuntime) -> Result<(), Fail> {
     Ok(())
 }
 
+/// Whether there are new tasks: before any was taken, once all were, and after an outcome.
+fn look_for_new<B: BookNaming, R: Wait + Abort>(
+    rt: &R,
+    alloc: Global,
+    token: BookToken,
+) -> [bool; 3]
+    requires table { token.table.shared.table_id ≡ B.table }
+    requires made { (token.made.name ≡ B.made) × (token.made.parts ≡ B.seats) }
+    requires totals { (token.totals.taken.name ≡ B.taken) × (token.totals.delivered.name ≡ B.delivered) × (token.totals.taken.parts ≡ B.parts) }
+{
+    let shared = SharedBook::<B>::new(alloc, token);
+    let _pass = buffered(rt, alloc, &shared);
+    let mut tally = shared.tally(rt).expect(rt, "a tally");
+    let at_first = shared.has_new(rt);
+    let outcomes = two_outcomes(rt, alloc, &shared, &mut tally);
+    let all_taken = shared.has_new(rt);
+    shared.deliver(rt, outcomes, &mut tally);
+    [at_first, all_taken, shared.has_new(rt)]
+}
+
+#[test]
+fn new_tasks_are_told(rt: HostRuntime) -> Result<(), Fail> {
+    let found = look_for_new::<Brand, _>(&rt, rt.alloc(), BookToken::new(rt.alloc())?);
+    assert!(rt; found == [true, false, true]);
+    Ok(())
+}
+
 /// What comes of two tasks.
 fn two_outcomes<B: BookNaming, R: Wait + Abort>(
     rt: &R,
