@@ -41,6 +41,8 @@ mod numbers;
 #[cfg(test)]
 mod orders;
 #[cfg(test)]
+mod packed_steps;
+#[cfg(test)]
 mod packing;
 #[cfg(test)]
 mod pile;
