@@ -51,12 +51,12 @@ def tests_of(program):
     return [name for name in names if name.startswith(TESTS)]
 
 
-def refuse_all(programs):
+def refuse_all(program):
     """Whether nothing was wrong. Prints how many allocations were refused in which call."""
     shown, made, wrong = collections.Counter(), 0, []
-    tests = [(program, test) for program in programs for test in tests_of(program)]
+    tests = tests_of(program)
     with ThreadPoolExecutor(processors()) as pool:
-        for program, test in tests:
+        for test in tests:
             calls = Calls(program, test)
             made += calls.run(pool)
             shown += calls.shown

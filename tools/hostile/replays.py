@@ -1,4 +1,4 @@
-"""Hostile scripts whose calls are made again: the test of scm_rows that runs a script in three ways, and hands the calls of each
+"""Hostile scripts whose calls are made again: the test that runs a script in three ways, and hands the calls of each
 journal to run_events. Each line that asks has one reply, whatever the way."""
 import importlib.machinery
 import importlib.util
