@@ -14,3 +14,6 @@ pub mod Leaving
 mod Delivering
 mod Taking
 mod FixedValues
+pub mod CopyLaws
+pub mod Searching
+pub mod LendingLaws

@@ -15,6 +15,7 @@ pub mod Callers
 pub mod CallerLaws
 pub mod JournalState
 pub mod Workers
+pub mod Inquiries
 pub mod Events
 pub use Rattle.scm_sequences.specs.Fronts
 pub use Rattle.scm_sequences.specs.Traces
@@ -36,3 +37,4 @@ pub use Rattle.scm_cells.specs.Numbers
 pub use Rattle.scm_frontier.specs.Reached
 pub use Rattle.scm_frontier.specs.Situated
 pub use Rattle.scm_lowering.specs.Lowering
+pub use Rattle.scm_reach.specs.Carrying

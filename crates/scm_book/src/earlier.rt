@@ -27,8 +27,31 @@ impl Earlier {
         }
     }
 
+    /// A copy.
+    pub(crate) fn copy(&self) -> Option<Earlier> {
+        let alloc = *self.schedule.allocator();
+        let reported = match &self.reported {
+            Some(reported) => Vec::from_slice(alloc, reported).ok(),
+            None => None,
+        };
+        Some(Earlier {
+            schedule: Vec::from_slice(alloc, &self.schedule).ok()?,
+            reported,
+            failed: self.failed,
+        })
+    }
+
     pub(crate) fn schedule(&self) -> &[u8] {
         &self.schedule
+    }
+
+    /// The schedule, where it has as many operations as there are within the lengths.
+    pub(crate) fn whole_schedule(&self, lengths: &Lengths) -> Option<&[u8]> {
+        if self.schedule.len() as u64 == operations_in(lengths) {
+            Some(&self.schedule)
+        } else {
+            None
+        }
     }
 
     /// An operation of this process was reported.
@@ -59,12 +82,17 @@ impl Earlier {
     pub(crate) fn learn(&mut self, reply: &Reply, lengths: &Lengths) {
         match reply {
             Reply::Consistent { schedule, .. } => self.keep(schedule),
-            _ => self.failed = Some(operations_in(lengths)),
+            _ => self.fail(lengths),
         }
     }
 
+    /// No schedule was found at these lengths.
+    pub(crate) fn fail(&mut self, lengths: &Lengths) {
+        self.failed = Some(operations_in(lengths));
+    }
+
     /// Keeps a copy of a schedule that isn't shorter, where there is memory for it.
-    fn keep(&mut self, schedule: &[u8]) {
+    pub(crate) fn keep(&mut self, schedule: &[u8]) {
         if schedule.len() < self.schedule.len() {
             return;
         }
@@ -83,6 +111,23 @@ impl Earlier {
             reported.truncate(operations);
         }
         self.failed = None;
+    }
+
+    /// Takes the schedule of another one, which began as a copy of this one, where it isn't shorter, as far as the trace has
+    /// as many operations; and where nothing changed since, what failed.
+    pub(crate) fn take_back(&mut self, other: Earlier, present: &Lengths, is_same: bool) {
+        let Earlier {
+            mut schedule,
+            reported: _,
+            failed,
+        } = other;
+        schedule.truncate(operations_in(present) as usize);
+        if schedule.len() >= self.schedule.len() {
+            self.schedule = schedule;
+        }
+        if is_same {
+            self.failed = failed;
+        }
     }
 
     /// A proposal may find more than before.

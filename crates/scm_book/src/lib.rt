@@ -3,12 +3,14 @@
 
 mod book;
 mod call;
+mod copying;
 mod cycle;
 mod declarations;
 mod earlier;
 mod entry;
 mod event;
 mod fixing;
+mod inquiry;
 mod journal;
 mod open_trace;
 mod proposing;
@@ -21,4 +23,5 @@ pub use book::Book;
 pub use call::{Call, Decl};
 pub use entry::Entry;
 pub use event::{Event, run_events};
+pub use inquiry::Inquiry;
 pub use reply::{Reply, Shown};

@@ -12,6 +12,7 @@ ghost use Rattle.scm_book.specs.Refusals.{trace_cause, claim_cause, release_caus
 ghost use Rattle.scm_book.specs.Showing.{shown_operations};
 
 mod asking;
+mod lending;
 mod refuting;
 mod working;
 

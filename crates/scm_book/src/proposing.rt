@@ -1,26 +1,35 @@
-//! Schedules that were proposed and judged.
-ghost use Rattle.std.specs.Prelude.{ℕ, ◌≡◌, List, length, reverse, IfSome};
+//! Schedules that are proposed and judged.
+ghost use Rattle.std.specs.Prelude.{◌≡◌, ◌≤◌, length, reverse, IfSome};
+ghost use Rattle.scm_sequences.specs.declared.limits.TheConstants.{MOST_CELLS};
 ghost use Rattle.scm_sequences.specs.Lengths.{IsWithin};
 ghost use Rattle.scm_sequences.specs.Ops.{NamesCellsBelow};
 ghost use Rattle.scm_sequences.specs.Sequences.{lengths_of};
 ghost use Rattle.scm_sequences.specs.Traces.{trace_of, cut_to};
 ghost use Rattle.scm_sequences.specs.Fronts.{IsSchedule};
-ghost use Rattle.scm_cells.specs.CellLists.{initials_of};
-ghost use Rattle.scm_reach.specs.Members.{Member};
-ghost use Rattle.scm_book.specs.Asking.{IsAsWanted};
-ghost use Rattle.scm_book.specs.Calls.{reply_data};
-ghost use Rattle.scm_book.specs.Sets.{IsKnownBy};
-ghost use Rattle.scm_book.specs.Verdicts.{Fits};
+ghost use Rattle.scm_book.specs.Inquiries.{CanJudge};
 
-use crate::Reply;
-use crate::fixing::fixed_names;
-use crate::question::Question;
+use crate::earlier::Earlier;
 use scm_proposals::{is_near_end, propose};
 use scm_reach::Reach;
 use scm_schedules::is_legal;
-use scm_sequences::{MOST_CELLS, MOST_PROCESSES};
+use scm_sequences::{Lengths, MOST_CELLS, MOST_PROCESSES, Sequences};
+use std::alloc::Global;
 
-impl Question<'_> {
+/// A search among no more situations than this is short.
+const FEW_SITUATIONS: u64 = 256;
+
+/// What schedules are proposed for: the trace with these sequences, cut to these lengths.
+#[derive(Drop)]
+pub(crate) struct Proposing<'a> {
+    pub(crate) alloc: Global,
+    pub(crate) sequences: &'a Sequences,
+    pub(crate) lengths: &'a Lengths,
+    /// How many situations may be kept.
+    pub(crate) limit: usize,
+    pub(crate) earlier: &'a Earlier,
+}
+
+impl Proposing<'_> {
     /// Whether a search is likely to be short, since its first way from the newest situation leads to the end, within the
     /// limit of situations. So a trace that grows from question to question goes on from what is held. Nothing rests on it.
     fn is_search_short(&self, reach: &Reach) -> Option<bool> {
@@ -39,18 +48,29 @@ impl Question<'_> {
         Some(is_near_end(counts, &mut contents, self.sequences, self.lengths, room))
     }
 
+    /// Whether the set has the answer.
+    fn is_settled(&self, reach: &Reach) -> bool
+        requires { IsWithin self.now.lengths.now (lengths_of self.now.sequences.now) }
+    {
+        reach.holds_whole(self.sequences, self.lengths) || !reach.is_open(self.sequences)
+    }
+
+    /// The longest schedule that was found, where it has every operation.
+    fn as_before(&self) -> Option<Vec<u8>> {
+        Vec::from_slice(self.alloc, self.earlier.whole_schedule(self.lengths)?).ok()
+    }
+
     /// The order in which the operations were reported, which is a schedule where it is that of their happening.
     fn as_reported(&self) -> Option<Vec<u8>> {
         Vec::from_slice(self.alloc, self.earlier.reported(self.lengths)?).ok()
     }
 
     /// What the heuristic proposes.
-    fn proposed(&self) -> Option<Vec<u8>> {
-        let initials = self.cells.initials().ok()?;
+    fn proposed(&self, reach: &Reach) -> Option<Vec<u8>> {
         let earlier = self.earlier.schedule();
         propose(
             self.alloc,
-            &initials,
+            reach.initials(),
             self.sequences,
             self.lengths,
             earlier,
@@ -59,55 +79,69 @@ impl Question<'_> {
     }
 
     /// This proposal, where it is legal.
-    fn judged(&self, proposal: Option<Vec<u8>>) -> Option<Vec<u8>>
-        requires within { IsWithin self.now.lengths.now (lengths_of self.now.sequences.now) }
-        requires names { NamesCellsBelow (length (initials_of self.now.cells.now)) self.now.sequences.now }
-        ensures { IfSome result (λ schedule. IsSchedule (cut_to (trace_of (initials_of self.now.cells.now) self.now.sequences.now) self.now.lengths.now) (reverse schedule.items)) }
+    fn judged(&self, reach: &Reach, proposal: Option<Vec<u8>>) -> Option<Vec<u8>>
+        requires { CanJudge self.now.sequences.now self.now.lengths.now reach.now.initials }
+        ensures { IfSome result (λ schedule. IsSchedule (cut_to (trace_of reach.now.initials self.now.sequences.now) self.now.lengths.now) (reverse schedule.items)) }
     {
         let schedule = proposal?;
-        prove!(self.cells.len() <= MOST_CELLS);
-        let initials = self.cells.initials().ok()?;
-        if is_legal(&initials, self.sequences, self.lengths, &schedule) {
+        if is_legal(reach.initials(), self.sequences, self.lengths, &schedule) {
             Some(schedule)
         } else {
             None
         }
     }
 
+    /// The schedule that was found before, or that of the reports, where it is legal.
+    fn known(&self, reach: &Reach) -> Option<Vec<u8>>
+        requires { CanJudge self.now.sequences.now self.now.lengths.now reach.now.initials }
+        ensures { IfSome result (λ schedule. IsSchedule (cut_to (trace_of reach.now.initials self.now.sequences.now) self.now.lengths.now) (reverse schedule.items)) }
+    {
+        match self.judged(reach, self.as_before()) {
+            Some(schedule) => Some(schedule),
+            None => self.judged(reach, self.as_reported()),
+        }
+    }
+
     /// A legal schedule of the trace, where one was proposed. `None` also where the set has the answer already or is near to
     /// it, where no proposal was legal, where none was legal before and nothing changed, and where memory is refused.
-    fn legal_proposal(&self, reach: &Reach) -> Option<Vec<u8>>
-        requires within { IsWithin self.now.lengths.now (lengths_of self.now.sequences.now) }
-        requires names { NamesCellsBelow (length (initials_of self.now.cells.now)) self.now.sequences.now }
-        ensures { IfSome result (λ schedule. IsSchedule (cut_to (trace_of (initials_of self.now.cells.now) self.now.sequences.now) self.now.lengths.now) (reverse schedule.items)) }
+    pub(crate) fn legal(&self, reach: &Reach) -> Option<Vec<u8>>
+        requires { CanJudge self.now.sequences.now self.now.lengths.now reach.now.initials }
+        ensures { IfSome result (λ schedule. IsSchedule (cut_to (trace_of reach.now.initials self.now.sequences.now) self.now.lengths.now) (reverse schedule.items)) }
     {
-        if self.earlier.has_failed(self.lengths)
-            || reach.holds_whole(self.sequences, self.lengths)
-            || !reach.is_open(self.sequences)
-        {
+        if self.earlier.has_failed(self.lengths) || self.is_settled(reach) {
             return None;
         }
         if self.is_search_short(reach)? {
             return None;
         }
-        match self.judged(self.as_reported()) {
+        match self.known(reach) {
             Some(schedule) => Some(schedule),
-            None => self.judged(self.proposed()),
+            None => self.judged(reach, self.proposed(reach)),
         }
     }
 
-    /// The answer that a legal proposal is. `None` where the set has to be asked.
-    pub(crate) fn proposal(&self, reach: &Reach) -> Option<Reply>
-        requires within { IsWithin self.now.lengths.now (lengths_of self.now.sequences.now) }
-        requires names { NamesCellsBelow (length (initials_of self.now.cells.now)) self.now.sequences.now }
-        ensures fits { IfSome result (λ reply. Fits self.now.cells.now (cut_to (trace_of (initials_of self.now.cells.now) self.now.sequences.now) self.now.lengths.now) self.now.limit (reply_data reply)) }
-        ensures known { IfSome result (λ reply. (members : List Member) (made : ℕ) → IsKnownBy (reply_data reply) self.now.sequences.now self.now.lengths.now members made members made) }
-        ensures wanted { IfSome result (λ reply. IsAsWanted self.now.explains (reply_data reply)) }
+    /// Whether the question is likely to take long: there may be many situations, the set is neither full nor near to the
+    /// answer, no schedule is known, and the set hasn't the answer. Nothing rests on it. What goes over the set comes last.
+    pub(crate) fn is_long(&self, reach: &Reach) -> bool
+        requires { CanJudge self.now.sequences.now self.now.lengths.now reach.now.initials }
     {
-        let schedule = self.legal_proposal(reach)?;
-        let Ok(fixed) = fixed_names(self.alloc, self.cells, self.sequences, &schedule) else {
-            return None;
-        };
-        Some(Reply::Consistent { schedule, fixed })
+        if self.has_few_situations() || reach.held() >= self.limit {
+            return false;
+        }
+        if self.is_search_short(reach).unwrap_or(true) {
+            return false;
+        }
+        let is_known = !self.earlier.has_failed(self.lengths) && self.known(reach).is_some();
+        !is_known && !self.is_settled(reach)
+    }
+
+    /// Whether there are few situations at most, by the lengths or by the limit.
+    fn has_few_situations(&self) -> bool {
+        let mut situations = 1u64;
+        for p in 0..self.lengths.procs() {
+            let counts = u64::from(self.lengths.get(p)) + 1;
+            situations = situations.saturating_mul(counts);
+        }
+        situations.min(self.limit as u64) <= FEW_SITUATIONS
     }
 }

@@ -7,6 +7,7 @@ ghost use Rattle.scm_book.specs.Machine.{trace_names};
 ghost use Rattle.scm_book.specs.Sets.{machine_in, sets_in, HasRoom, HasRoomFor, HoldsFor, IfDone, HasNewSet, CutsSet, SearchesSet, LeavesSets};
 ghost use Rattle.scm_book.specs.Steps.{IsStepOrNoMemory};
 
+mod lending;
 mod working;
 
 use crate::open_trace::OpenTrace;

@@ -31,6 +31,8 @@ mod idle;
 #[cfg(test)]
 mod initials;
 #[cfg(test)]
+mod lending;
+#[cfg(test)]
 mod lowering;
 #[cfg(test)]
 mod marks;

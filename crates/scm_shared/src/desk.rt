@@ -5,6 +5,7 @@ ghost use Rattle.scm_sequences.specs.declared.limits.TheConstants.{MOST_SESSIONS
 ghost use Rattle.scm_results.specs.Tallies.{nothing_counted};
 ghost use Rattle.scm_book.specs.Calls.{call_data, reply_data, refused};
 ghost use Rattle.scm_book.specs.Journal.{makes_entry, IsCall, IsUnchanged};
+ghost use Rattle.scm_book.specs.Inquiries.{IsLending, IsTakingBack};
 ghost use Rattle.scm_book.specs.Workers.{IsTaking, IsDelivery};
 ghost use Rattle.scm_shared.specs.Desks.{IsRefusedRoom};
 ghost use Rattle.scm_shared.specs.Passes.{newcomer, Extended, SeenFull};
@@ -14,7 +15,7 @@ use crate::hall::Hall;
 use crate::word::View;
 use crate::{BookNaming, Made, Pass};
 use atomic_table::Seat;
-use scm_book::{Book, Call, Entry, Reply};
+use scm_book::{Book, Call, Entry, Inquiry, Reply};
 use scm_expand::{Outcome, Task};
 use scm_results::{Results, Tally, Token, Totals};
 use scm_sequences::{MOST_ENTRIES, MOST_SESSIONS, NoMemory, Refusal};
@@ -129,6 +130,45 @@ impl<B: BookNaming> Desk<B> {
             }
         }
         reply
+    }
+
+    /// Makes the call, unless it asks a question that is to be searched without the lock first: that is lent, with the call.
+    pub(crate) fn call_or_lend(
+        &mut self,
+        hall: &Hall<B>,
+        pass: &mut Pass<B>,
+        call: Call,
+    ) -> Result<Reply, (Call, Inquiry)>
+        ensures made { IfOk result (λ reply. makes_entry (reply_data reply) ≡ true → Extended pass.old (call_data call) (reply_data reply) pass.new) }
+        ensures full { IfOk result (λ reply. reply_data reply ≡ refused JournalFull → SeenFull pass.old pass.new) }
+        ensures refused { IfOk result (λ reply. reply_data reply ≡ refused WithoutMemory → pass.new ≡ pass.old) }
+        ensures good { IfOk result (λ reply. reply_data reply ≢ refused BadLine) }
+        ensures sessions { IfOk result (λ reply. reply_data reply ≢ refused TooManySessions) }
+        ensures lent { IfErr result (λ lent. (call_data lent.0 ≡ call_data call) × IsLending self.old.book (call_data call) (Some lent.1) self.new.book) }
+        ensures pass { IfErr result (λ _. pass.new ≡ pass.old) }
+    {
+        match self.book.lend(&call) {
+            Some(inquiry) => Err((call, inquiry)),
+            None => Ok(self.call(hall, pass, call)),
+        }
+    }
+
+    /// Takes a question back that was lent, and makes its call.
+    pub(crate) fn call_searched(
+        &mut self,
+        hall: &Hall<B>,
+        pass: &mut Pass<B>,
+        call: Call,
+        inquiry: Inquiry,
+    ) -> Reply
+        ensures made { makes_entry (reply_data result) ≡ true → Extended pass.old (call_data call) (reply_data result) pass.new }
+        ensures full { reply_data result ≡ refused JournalFull → SeenFull pass.old pass.new }
+        ensures refused { reply_data result ≡ refused WithoutMemory → pass.new ≡ pass.old }
+        ensures good { reply_data result ≢ refused BadLine }
+        ensures sessions { reply_data result ≢ refused TooManySessions }
+    {
+        self.book.take_back(inquiry);
+        self.call(hall, pass, call)
     }
 
     /// Takes at most `n` tasks, and counts them.

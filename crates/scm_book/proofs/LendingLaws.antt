@@ -1,0 +1,58 @@
+-- Questions that are lent by a trace and taken back.
+use Rattle.std.proofs.Common.{ℕ, ◌≡◌, ◌<◌, ◌≤◌, ◌^◌, List, length, Option, None, Some, Ok, MatchOption, sym, ap, ◌∙◌, subst, arith}
+use Rattle.std.specs.Map.{set_value}
+use Rattle.std.proofs.lemmas.Map.Steps.{set_value_same}
+use Rattle.scm_sequences.specs.Traces.{trace_of}
+use Rattle.scm_cells.specs.Names.{name_eq}
+use Rattle.scm_cells.specs.CellLists.{initials_of}
+use Rattle.scm_cells.specs.CellLaws.{length-initials_of}
+use Rattle.scm_reach.specs.Kept.{Kept, IsKept}
+use Rattle.scm_book.specs.Asking.{CanAsk}
+use Rattle.scm_book.specs.Inquiries.{Inquired, CanSearch, Lends, IsLentOf, TakesBack, IsTakenBack}
+use Rattle.scm_book.specs.Machine.{Machine, TraceState, trace_named}
+use Rattle.scm_book.specs.Sets.{set_named, asked_lengths, most_steps, Becomes}
+use Rattle.scm_book.specs.Sound.{IsSoundTrace, IsKeptFor}
+use Rattle.scm_book.proofs.AskedLengths.{can_ask}
+
+-- what may be asked may be searched elsewhere
+pub can_search : (state : TraceState) (mark : Option ℕ) (name lengths : List ℕ) (limit : ℕ) (set : Kept) → limit ≡ state.budget → asked_lengths state mark ≡ Ok lengths → IsSoundTrace state → IsKeptFor state set → most_steps state < 2 ^ 64
+    → CanSearch (record { name = name; sequences = state.sequences; lengths = lengths; limit = limit; set = set })
+can_search state mark name lengths limit set budget is sound for room =
+    let can : CanAsk state.cells state.sequences lengths limit set 0 = can_ask state mark limit 0 lengths set budget is sound for (omega (arith, room)) in
+    record {
+      judge = record {
+        cells = (let most = sound.cells.most in omega (arith, most, ap length for.initials, length-initials_of state.cells));
+        within = can.within;
+        names = can.names;
+      };
+      kept = can.kept;
+      few = can.few;
+      room = omega (arith, can.room);
+    }
+
+-- the start alone is kept for the trace
+pub IsKeptFor-start : (state : TraceState) (start : Kept) → IsSoundTrace state → start.initials ≡ initials_of state.cells → length start.members ≡ 1 → IsKept (trace_of (initials_of state.cells) state.sequences) start.members → IsKeptFor state start
+IsKeptFor-start state start sound initials one kept = record { initials = initials; kept = kept; few = omega (arith, one, sound.least) }
+
+-- and so is a set that was carried over
+pub IsKeptFor-carried : (state : TraceState) (set new : Kept) → set.initials ≡ initials_of state.cells → new.initials ≡ set.initials → IsKept (trace_of set.initials state.sequences) new.members → length new.members ≤ state.budget → IsKeptFor state new
+IsKeptFor-carried state set new cells same kept few =
+    record { initials = same ∙ cells; kept = subst (λ initials. IsKept (trace_of initials state.sequences) new.members) cells kept; few = few }
+
+-- ---- of the traces
+
+module _ (machine : Machine) (sets new : List (List ℕ × Kept)) (name : List ℕ) where
+  pub lent_of : (mark : Option ℕ) (state : TraceState) (old kept : Kept) (lent : Option Inquired) → trace_named machine name ≡ Some state → set_named sets name ≡ Some old
+      → MatchOption lent (kept ≡ old) (λ q. Lends name mark state old q kept) → new ≡ set_value (name_eq name) sets kept → MatchOption lent (new ≡ sets) (λ q. IsLentOf machine sets name mark q new)
+  lent_of mark state old kept None there found same written = written ∙ ap (set_value (name_eq name) sets) same ∙ set_value_same (name_eq name) sets old found
+  lent_of mark state old kept (Some q) there found lends written =
+      record { state = state; there = there; lent = record { before = old; after = kept; found = found; leads = lends; written = written } }
+
+  pub taken_none : (q : Inquired) → name ≡ q.name → trace_named machine name ≡ None → new ≡ sets → IsTakenBack machine sets q new
+  taken_none q is none same = subst (λ n. MatchOption (trace_named machine n) (new ≡ sets) (λ state. Becomes sets n (TakesBack state q) new)) is
+      (subst (λ o. MatchOption o (new ≡ sets) (λ state. Becomes sets name (TakesBack state q) new)) (sym none) same)
+
+  pub taken_some : (q : Inquired) → name ≡ q.name → (state : TraceState) (old kept : Kept) → trace_named machine name ≡ Some state → set_named sets name ≡ Some old → TakesBack state q old kept → new ≡ set_value (name_eq name) sets kept
+      → IsTakenBack machine sets q new
+  taken_some q is state old kept there found takes written = subst (λ n. MatchOption (trace_named machine n) (new ≡ sets) (λ s. Becomes sets n (TakesBack s q) new)) is
+      (subst (λ o. MatchOption o (new ≡ sets) (λ s. Becomes sets name (TakesBack s q) new)) (sym there) (record { before = old; after = kept; found = found; leads = takes; written = written }))

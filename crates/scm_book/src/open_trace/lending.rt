@@ -1,0 +1,114 @@
+//! Questions about an open trace that are searched beside it.
+ghost use Rattle.std.specs.Prelude.{◌≡◌, IfSome, IsTrue, MatchOption, Ok};
+ghost use Rattle.scm_sequences.specs.Lengths.{IsWithin};
+ghost use Rattle.scm_sequences.specs.Sequences.{lengths_of};
+ghost use Rattle.scm_cells.specs.CellLists.{initials_of};
+ghost use Rattle.scm_book.specs.Sets.{asked_lengths};
+ghost use Rattle.scm_book.specs.Inquiries.{Lends, TakesBack};
+
+use super::OpenTrace;
+use super::asking::lengths_at;
+use crate::copying::{copy_of_lengths, copy_of_sequences};
+use crate::inquiry::Inquiry;
+use crate::proposing::Proposing;
+use scm_cells::{Cells, Name};
+use scm_reach::Reach;
+use scm_sequences::{Lengths, NoMemory};
+use std::alloc::Global;
+use std::mem;
+
+impl OpenTrace {
+    /// The question about the present trace, or as it stood at a mark, to be searched elsewhere, with the set that is kept
+    /// for the trace; the start alone stays here. `None`, with everything as it was, where the mark isn't there, the answer
+    /// is likely to be near, or memory is refused.
+    pub(crate) fn lend(&mut self, alloc: Global, name: Name, mark: Option<u64>) -> Option<Inquiry>
+        ensures state { self.new.state ≡ self.old.state }
+        ensures lends { MatchOption result (self.new.set ≡ self.old.set) (λ inquiry. Lends name mark self.old.state self.old.set inquiry self.new.set) }
+    {
+        let _most = self.most_steps();
+        let lengths = self.lengths_of_question(alloc, mark)?;
+        if !self.is_long(alloc, &lengths) {
+            return None;
+        }
+        let earlier = self.earlier.copy()?;
+        let Ok(sequences) = copy_of_sequences(alloc, &self.sequences) else {
+            return None;
+        };
+        let Ok(start) = Reach::new(alloc, &self.cells, &self.sequences) else {
+            return None;
+        };
+        Some(Inquiry {
+            alloc,
+            name,
+            sequences,
+            lengths,
+            limit: self.budget.limit(),
+            reach: mem::replace(&mut self.reach, start),
+            earlier,
+        })
+    }
+
+    /// A copy of the lengths that a question is about, where they are there.
+    fn lengths_of_question(&self, alloc: Global, mark: Option<u64>) -> Option<Lengths>
+        ensures { IfSome result (λ lengths. asked_lengths self.now.state mark ≡ Ok lengths) }
+    {
+        let present = self.sequences.lengths();
+        match lengths_at(&self.marks, &present, mark) {
+            Ok(lengths) => Some(copy_of_lengths(alloc, lengths)),
+            Err(_) => None,
+        }
+    }
+
+    /// Whether a question about the trace cut to these lengths is likely to take long.
+    fn is_long(&self, alloc: Global, lengths: &Lengths) -> bool
+        requires { IsWithin lengths.now (lengths_of self.now.state.sequences) }
+    {
+        let proposing = Proposing {
+            alloc,
+            sequences: &self.sequences,
+            lengths,
+            limit: self.budget.limit(),
+            earlier: &self.earlier,
+        };
+        proposing.is_long(&self.reach)
+    }
+
+    /// Takes a question back that may have been lent of another trace: its set stands in the place of the present one where
+    /// it holds more, once it is cut to what both traces have in common, and no more than the budget.
+    pub(crate) fn take_back(&mut self, inquiry: Inquiry)
+        ensures state { self.new.state ≡ self.old.state }
+        ensures takes { TakesBack self.old.state inquiry self.old.set self.new.set }
+    {
+        let Inquiry {
+            alloc: _,
+            name: _,
+            sequences,
+            lengths: _,
+            limit,
+            mut reach,
+            earlier,
+        } = inquiry;
+        let same_procs = sequences.procs() == self.sequences.procs();
+        if !same_procs || !has_initials(&self.cells, reach.initials()) {
+            return;
+        }
+        let begins = reach.carry_over(&sequences, &self.sequences);
+        let is_same = begins && limit == self.budget.limit();
+        self.earlier
+            .take_back(earlier, &self.sequences.lengths(), is_same);
+        let held = reach.held();
+        if held > self.reach.held() && held <= self.budget.limit() {
+            self.reach = reach;
+        }
+    }
+}
+
+/// Whether the cells hold this at first; not where memory is refused.
+fn has_initials(cells: &Cells, initials: &[Option<u64>]) -> bool
+    ensures { IsTrue result → (initials.now ≡ initials_of cells.now) }
+{
+    match cells.initials() {
+        Ok(held) => held.as_slice() == initials,
+        Err(NoMemory) => false,
+    }
+}
