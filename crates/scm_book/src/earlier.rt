@@ -1,4 +1,5 @@
 //! What is kept for the next proposal.
+ghost use Rattle.std.specs.Prelude.{◌≤◌, length, sum};
 
 use crate::Reply;
 use scm_sequences::Lengths;
@@ -104,7 +105,9 @@ impl Earlier {
 
     /// The trace is cut to these lengths. Of the schedule no more is kept than a schedule of them has; of the reports, the
     /// first ones, which led to these lengths.
-    pub(crate) fn cut(&mut self, lengths: &Lengths) {
+    pub(crate) fn cut(&mut self, lengths: &Lengths)
+        ensures { length self.new.schedule.items ≤ sum lengths.now }
+    {
         let operations = operations_in(lengths) as usize;
         self.schedule.truncate(operations);
         if let Some(reported) = &mut self.reported {
@@ -137,7 +140,9 @@ impl Earlier {
 }
 
 /// How many operations lie within the lengths.
-fn operations_in(lengths: &Lengths) -> u64 {
+fn operations_in(lengths: &Lengths) -> u64
+    ensures { result ≤ sum lengths.now }
+{
     let mut operations: u64 = 0;
     for p in 0..lengths.procs() {
         operations = operations.saturating_add(u64::from(lengths.get(p)));

@@ -65,9 +65,10 @@ impl Proposing<'_> {
         Vec::from_slice(self.alloc, self.earlier.reported(self.lengths)?).ok()
     }
 
-    /// What the heuristic proposes.
+    /// What the heuristic proposes, before a search of what the limit leaves beside this set.
     fn proposed(&self, reach: &Reach) -> Option<Vec<u8>> {
         let earlier = self.earlier.schedule();
+        let room = self.limit.saturating_sub(reach.held());
         propose(
             self.alloc,
             reach.initials(),
@@ -75,6 +76,7 @@ impl Proposing<'_> {
             self.lengths,
             earlier,
             self.limit,
+            room,
         )
     }
 

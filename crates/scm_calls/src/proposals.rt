@@ -14,6 +14,7 @@ fn message_passing(rt: HostRuntime) {
         (1, read(0, 1)),
     ];
     let sequences = sequences_of(&rt, alloc, 2, &operations);
-    let schedule = propose(alloc, &ZEROS, &sequences, &sequences.lengths(), &[], 1_000);
+    let lengths = sequences.lengths();
+    let schedule = propose(alloc, &ZEROS, &sequences, &lengths, &[], 1_000, 1_000);
     assert!(rt; schedule.expect(&rt, "a schedule").as_slice() == [0, 0, 1, 1].as_slice());
 }

@@ -3,16 +3,22 @@
 #![tactic(auto)]
 
 mod awaited;
+mod beam;
+mod beams;
 mod beginning;
 mod choosing;
 mod ending;
 mod facts;
+mod front;
+mod futures;
 mod memory;
 mod order;
 mod proposal;
 mod rank;
 mod saturation;
+mod score;
 mod sources;
+mod state;
 mod walk;
 
 pub use ending::is_near_end;

@@ -1,4 +1,5 @@
 //! A proposal for a schedule.
+use crate::beams::{complete_by_beams, fuel_of_beams};
 use crate::beginning::Beginning;
 use crate::facts::Facts;
 use crate::order::Order;
@@ -32,6 +33,7 @@ struct Proposer<'a> {
     lengths: &'a Lengths,
     earlier: &'a [u8],
     limit: usize,
+    room: usize,
 }
 
 /// A schedule for the trace with these first contents (`None` is an open cell) and these sequences, cut to these
@@ -39,8 +41,8 @@ struct Proposer<'a> {
 /// was seen, and where memory is refused. Nothing is promised of it: `is_legal` tells whether it is one.
 ///
 /// `earlier` may be any list of process numbers. As far as it is a legal schedule it is gone on from: a schedule of what
-/// the trace was before, or at a mark, makes the way short. `limit` is how many situations a search would look at
-/// otherwise; a small one makes this give up sooner.
+/// the trace was before, or at a mark, makes the way short. `limit` is how many situations a search may hold, and `room`
+/// how many of them it may still look at: small ones make this give up sooner.
 pub fn propose(
     alloc: Global,
     initials: &[Option<u64>],
@@ -48,6 +50,7 @@ pub fn propose(
     lengths: &Lengths,
     earlier: &[u8],
     limit: usize,
+    room: usize,
 ) -> Option<Vec<u8>> {
     let proposer = Proposer {
         alloc,
@@ -56,6 +59,7 @@ pub fn propose(
         lengths,
         earlier,
         limit,
+        room,
     };
     let longest = proposer.beginning(earlier.len())?;
     let mut tail = 0;
@@ -72,7 +76,7 @@ pub fn propose(
             .max(longest.left(lengths))
             .max(SHORTEST_TAIL);
     }
-    None
+    proposer.complete_by_beams()
 }
 
 impl Proposer<'_> {
@@ -104,6 +108,16 @@ impl Proposer<'_> {
         let mut walk = Walk::new(self.alloc, self.order(kept)?)?;
         walk.make_all()?;
         Some(walk)
+    }
+
+    /// A schedule that is made from nothing, by beams.
+    fn complete_by_beams(&self) -> Option<Vec<u8>> {
+        let fuel = fuel_of_beams(self.lengths, self.room);
+        if fuel == 0 {
+            return None;
+        }
+        let order = self.order(0)?;
+        complete_by_beams(self.alloc, &order.facts, fuel)
     }
 
     /// What comes before what after so many places.

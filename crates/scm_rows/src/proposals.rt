@@ -29,19 +29,21 @@ fn sequences_of(rt: &impl Abort, alloc: Global, lists: &[&[Op]]) -> Result<Seque
     Ok(sequences)
 }
 
-/// Whether a schedule that goes on from this earlier one is proposed for the trace, and is legal.
+/// Whether a schedule that goes on from this earlier one is proposed for the trace, before a search with this room, and is
+/// legal.
 fn has_legal_proposal_from(
     rt: &impl Abort,
     alloc: Global,
     initials: &[Option<u64>],
     sequences: &Sequences,
     earlier: &[u8],
+    room: usize,
 ) -> bool {
     let lengths = sequences.lengths();
     assert!(rt; initials.len() <= MOST_CELLS);
     assert!(rt; lengths.within(&sequences.lengths()));
     assert!(rt; sequences.names_cells_below(initials.len()));
-    match propose(alloc, initials, sequences, &lengths, earlier, 10_000) {
+    match propose(alloc, initials, sequences, &lengths, earlier, 10_000, room) {
         Some(places) => is_legal(initials, sequences, &lengths, &places),
         None => false,
     }
@@ -54,7 +56,7 @@ fn has_legal_proposal(
     initials: &[Option<u64>],
     sequences: &Sequences,
 ) -> bool {
-    has_legal_proposal_from(rt, alloc, initials, sequences, &[])
+    has_legal_proposal_from(rt, alloc, initials, sequences, &[], 10_000)
 }
 
 const ZEROS: [Option<u64>; 2] = [Some(0), Some(0)];
@@ -126,7 +128,7 @@ fn earlier_schedules(rt: HostRuntime) -> Result<(), Fail> {
     )?;
     let earlier: [&[u8]; 5] = [&[0, 1], &[0, 0], &[1, 0], &[7, 255], &[0, 1, 0, 1, 0]];
     for places in earlier {
-        assert!(rt; has_legal_proposal_from(&rt, rt.alloc(), &ZEROS, &sequences, places));
+        assert!(rt; has_legal_proposal_from(&rt, rt.alloc(), &ZEROS, &sequences, places, 0));
     }
     Ok(())
 }
@@ -170,5 +172,38 @@ fn turns(rt: HostRuntime) -> Result<(), Fail> {
         sequences.push(reader, read(0, value))?;
     }
     assert!(rt; has_legal_proposal(&rt, rt.alloc(), &[Some(0)], &sequences));
+    Ok(())
+}
+
+/// A trace of few values with one schedule, in which most reads have several writers: the walk alone finds no way, and
+/// beams do, where the search that follows has less room than the counts tell apart.
+#[test]
+fn few_values(rt: HostRuntime) -> Result<(), Fail> {
+    let first = [
+        write(1, 1),
+        write(1, 0),
+        write(1, 0),
+        write(0, 1),
+        swap(1, 1, 2),
+    ];
+    let second = [
+        write(1, 1),
+        read(1, 1),
+        write(0, 0),
+        swap(0, 1, 0),
+        swap(0, 0, 2),
+    ];
+    let third = [
+        read(1, 2),
+        swap(0, 1, 1),
+        read(0, 1),
+        read(0, 1),
+        read(0, 1),
+    ];
+    let sequences = sequences_of(&rt, rt.alloc(), &[&first, &second, &third])?;
+    for (room, is_found) in [(0, false), (20, true), (216, false)] {
+        let found = has_legal_proposal_from(&rt, rt.alloc(), &ZEROS, &sequences, &[], room);
+        assert!(rt; found == is_found);
+    }
     Ok(())
 }
