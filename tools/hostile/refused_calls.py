@@ -9,7 +9,7 @@ from concurrent.futures import ThreadPoolExecutor
 from refused_scripts import IN_VAIN, counts
 from unproved import processors
 
-TESTS = ("refused::", "refused_books::", "refused_lines::")
+TESTS = ("refused::", "refused_books::", "refused_forms::", "refused_lines::")
 NO_CALL, PREPARING = "no call", "a test's own preparing"
 WANTS_MEMORY = re.compile(rb"memory|NoMemory|AllocError|AllocFailed")
 
