@@ -7,8 +7,9 @@ use crate::state::State;
 use indexmap::IndexSet;
 use std::alloc::Global;
 
-/// What a state burns, and one for each two processes: what each waits for may be written by each other.
-const FUEL_OF_STATE: u64 = 8;
+/// What a move burns. A state that is new burns one for each two processes, since what one waits for may be written by each
+/// other.
+const FUEL_OF_MOVE: u64 = 8;
 
 /// A state that can be reached next: what it costs, its key, and by which process it is reached from which state.
 #[derive(Clone, Copy, PartialEq, Eq, PartialOrd, Ord)]
@@ -36,6 +37,8 @@ pub(crate) struct Beam<'a> {
     state: State,
     front: Front,
     next: Front,
+    // Keys of the states that were reached at this step, some by several ways.
+    seen: IndexSet<u64>,
     candidates: Vec<Candidate>,
     steps: Vec<Step>,
     is_cut: bool,
@@ -61,6 +64,7 @@ impl<'a> Beam<'a> {
             state,
             front,
             next: Front::new(alloc, facts),
+            seen: IndexSet::new(alloc),
             candidates: Vec::new(alloc),
             steps: Vec::new(alloc),
             is_cut: false,
@@ -87,6 +91,7 @@ impl<'a> Beam<'a> {
 
     fn find_candidates(&mut self, fuel: &mut u64) -> Option<()> {
         self.candidates.clear();
+        self.seen = IndexSet::new(self.alloc);
         for from in 0..self.front.len()? {
             self.front.load(from, &mut self.state)?;
             for process in 0..self.facts.procs {
@@ -100,17 +105,24 @@ impl<'a> Beam<'a> {
         let Some(access) = self.state.next(self.facts, self.futures, process) else {
             return Some(());
         };
-        let procs = u64::from(self.facts.procs);
-        let burnt = procs.saturating_mul(procs).saturating_add(FUEL_OF_STATE);
-        *fuel = fuel.checked_sub(burnt)?;
+        *fuel = fuel.checked_sub(FUEL_OF_MOVE)?;
         self.state
             .advance(self.facts, self.futures, process, access)?;
-        if let Some(score) = Score::of(
-            &self.state,
-            self.facts,
-            self.futures,
-            u64::from(self.width),
-        ) {
+        let key = self.state.key();
+        let (_, is_new) = self.seen.insert_full(key).ok()?;
+        if is_new {
+            self.add_candidate(fuel, from, process)?;
+        }
+        self.state.take_back()
+    }
+
+    // The state was reached from this one by this process.
+    fn add_candidate(&mut self, fuel: &mut u64, from: u32, process: u32) -> Option<()> {
+        let procs = u64::from(self.facts.procs);
+        let burnt = procs.saturating_mul(procs);
+        *fuel = fuel.checked_sub(burnt)?;
+        let seed = u64::from(self.width);
+        if let Some(score) = Score::of(&self.state, self.facts, self.futures, seed) {
             let candidate = Candidate {
                 cost: score.cost,
                 key: score.key,
@@ -119,7 +131,7 @@ impl<'a> Beam<'a> {
             };
             self.candidates.push(candidate).ok()?;
         }
-        self.state.take_back()
+        Some(())
     }
 
     // The cheapest candidates are the next front.

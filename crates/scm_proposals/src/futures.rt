@@ -1,5 +1,6 @@
 //! What each process does next, and how far it is from writing each value.
 use crate::facts::Facts;
+use crate::waits::Waits;
 use scm_clocks::{Grid, Numbers};
 use std::alloc::Global;
 
@@ -43,9 +44,11 @@ impl Access {
     }
 }
 
-/// The accesses of all processes, and for each place of each process how far the next write of each value is.
+/// The accesses of all processes, what each waits for, and for each place of each process how far the next write of each
+/// value is.
 #[derive(Drop)]
 pub(crate) struct Futures {
+    pub(crate) waits: Waits,
     accesses: Vec<Access>,
     width: u32,
     distances: Grid,
@@ -63,6 +66,7 @@ impl Futures {
         }
         *fuel = fuel.checked_sub(u64::from(numbers))?;
         let mut futures = Futures {
+            waits: Waits::new(alloc),
             accesses: Vec::new(alloc),
             width,
             distances: Grid::zeros(alloc, rows, values)?,
@@ -71,6 +75,7 @@ impl Futures {
             futures.add_accesses(alloc, facts, process)?;
             futures.find_distances(facts, process)?;
         }
+        futures.waits.add_all(facts, &futures.accesses)?;
         Some(futures)
     }
 
@@ -115,23 +120,6 @@ impl Futures {
 
     fn row(&self, process: u32, place: u32) -> Option<u32> {
         process.checked_mul(self.width)?.checked_add(place)
-    }
-
-    /// The accesses of a process from a place on, as many as there are of so many.
-    pub(crate) fn from(
-        &self,
-        facts: &Facts,
-        process: u32,
-        place: u32,
-        most: u32,
-    ) -> Option<&[Access]> {
-        let left = facts.numbering.count(process)?.checked_sub(place)?;
-        let start = match facts.numbering.number(process, place) {
-            Some(first) => first as usize,
-            None => self.accesses.len(),
-        };
-        self.accesses
-            .get(start..start.checked_add(left.min(most) as usize)?)
     }
 
     /// The access at a place of a process, if it has one there.

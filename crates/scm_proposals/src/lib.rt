@@ -11,6 +11,7 @@ mod ending;
 mod facts;
 mod front;
 mod futures;
+mod hashing;
 mod memory;
 mod order;
 mod proposal;
@@ -19,6 +20,7 @@ mod saturation;
 mod score;
 mod sources;
 mod state;
+mod waits;
 mod walk;
 
 pub use ending::is_near_end;

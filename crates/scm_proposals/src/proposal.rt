@@ -7,8 +7,11 @@ use crate::walk::Walk;
 use scm_sequences::{Lengths, Sequences};
 use std::alloc::Global;
 
-/// How many visits and moves are made at most for each operation that is left.
-const MOST_FUEL: u64 = 192;
+/// How many visits and moves are made at most for each operation that is left: so many, and so many for each process. The
+/// walks that come to their end need a third of it.
+const MOST_FUEL: u64 = 8;
+
+const MOST_FUEL_OF_PROCESS: u64 = 8;
 
 /// How many are made for each operation, for each situation of the limit, and for any trace. One costs about as much as
 /// a situation that is searched.
@@ -124,17 +127,21 @@ impl Proposer<'_> {
     fn order(&self, kept: usize) -> Option<Order> {
         let beginning = self.beginning(kept)?;
         let facts = Facts::new(self.alloc, &beginning, self.sequences, self.lengths)?;
-        let fuel = self.fuel(u64::from(facts.ops));
+        let fuel = self.fuel(&facts);
         let mut order = Order::new(self.alloc, facts, fuel)?;
         order.spread()?;
         Some(order)
     }
 
-    /// The fuel for so many operations.
-    fn fuel(&self, ops: u64) -> u64 {
+    /// The fuel for what is left.
+    fn fuel(&self, facts: &Facts) -> u64 {
+        let ops = u64::from(facts.ops);
+        let most = u64::from(facts.procs)
+            .saturating_mul(MOST_FUEL_OF_PROCESS)
+            .saturating_add(MOST_FUEL);
         ops.saturating_mul(FUEL)
             .saturating_add((self.limit as u64).saturating_mul(FUEL_OF_SITUATION))
-            .min(ops.saturating_mul(MOST_FUEL))
             .saturating_add(LEAST_FUEL)
+            .min(ops.saturating_mul(most))
     }
 }

@@ -1,6 +1,7 @@
 //! How far the processes have come, and what the cells hold then.
 use crate::facts::Facts;
 use crate::futures::{Access, Futures};
+use crate::hashing::mix;
 use std::alloc::Global;
 
 /// Counts, contents, and what was made since the state was begun or loaded, in order.
@@ -46,6 +47,24 @@ impl State {
             left = left.checked_sub(*count)?;
         }
         Some(left)
+    }
+
+    /// Tells how far the processes are.
+    pub(crate) fn key_of_counts(&self) -> u64 {
+        let mut key = 0;
+        for count in self.counts.iter() {
+            key = mix(key ^ u64::from(*count));
+        }
+        key
+    }
+
+    /// Tells how far the processes are and what the cells hold.
+    pub(crate) fn key(&self) -> u64 {
+        let mut key = self.key_of_counts();
+        for held in self.contents.iter() {
+            key = mix(key ^ u64::from(held.unwrap_or(u32::MAX)));
+        }
+        key
     }
 
     /// What a cell holds.

@@ -19,6 +19,7 @@ pub(crate) struct Walk {
     pub(crate) awaited: Awaited,
     // For each write the version of its cell, and 1, at which it may not be made.
     barred: Numbers,
+    bars: Vec<Bar>,
     made: Vec<Made>,
     decisions: Vec<Decision>,
 }
@@ -31,12 +32,21 @@ struct Made {
     before: Before,
 }
 
-/// A write that was chosen from several: how many operations were made before, and how many clocks changed.
+/// A write that was barred, and what barred it before.
+#[derive(Clone, Copy)]
+struct Bar {
+    x: u32,
+    before: u32,
+}
+
+/// A write that was chosen from several: how many operations were made before, how many clocks changed, and how many writes
+/// were barred.
 #[derive(Clone, Copy)]
 struct Decision {
     x: u32,
     made: usize,
     changes: usize,
+    bars: usize,
 }
 
 impl Walk {
@@ -53,6 +63,7 @@ impl Walk {
             last: 0,
             awaited,
             barred,
+            bars: Vec::new(alloc),
             made: Vec::new(alloc),
             decisions: Vec::new(alloc),
         })
@@ -79,6 +90,7 @@ impl Walk {
             x: choice.x,
             made: self.made.len(),
             changes: self.order.clocks.changes(),
+            bars: self.bars.len(),
         };
         self.make(choice.x)?;
         if choice.rank == Rank::Harmless {
@@ -99,16 +111,33 @@ impl Walk {
         self.take_back(decision)
     }
 
-    // Takes back all from a write on, which may not be made as long as its cell holds what it holds then.
+    // Takes back all from a write on, and bars it. What was barred meanwhile was so because that write was made.
     fn take_back(&mut self, decision: Decision) -> Option<()> {
         self.order.clocks.take_back(decision.changes)?;
         for _ in decision.made..self.made.len() {
             self.order.burn()?;
             self.unmake()?;
         }
-        let cell = self.order.facts.numbering.cell(decision.x)?;
+        self.lift_bars(decision.bars)?;
+        self.bar(decision.x)
+    }
+
+    // Leaves so many writes barred.
+    fn lift_bars(&mut self, kept: usize) -> Option<()> {
+        for _ in kept..self.bars.len() {
+            let bar = self.bars.pop()?;
+            self.barred.set(bar.x, bar.before)?;
+        }
+        Some(())
+    }
+
+    // A write may not be made as long as its cell holds what it holds now.
+    fn bar(&mut self, x: u32) -> Option<()> {
+        let cell = self.order.facts.numbering.cell(x)?;
         let version = self.memory.version(cell)?;
-        self.barred.set(decision.x, version.checked_add(1)?)
+        let before = self.barred.get(x)?;
+        self.bars.push(Bar { x, before }).ok()?;
+        self.barred.set(x, version.checked_add(1)?)
     }
 
     pub(crate) fn is_barred(&self, x: u32, cell: u32) -> Option<bool> {
@@ -138,7 +167,6 @@ impl Walk {
         let cell = self.order.facts.numbering.cell(x)?;
         self.order.counts.lower(process)?;
         self.awaited.add(&self.order.facts, x)?;
-        self.barred.set(x, 0)?;
         self.memory.put_back(cell, before)
     }
 
