@@ -9,6 +9,8 @@ mod amo;
 #[cfg(test)]
 mod amo_corners;
 #[cfg(test)]
+mod asked;
+#[cfg(test)]
 mod book;
 #[cfg(test)]
 mod budget;
@@ -24,6 +26,8 @@ mod cycles;
 mod deliveries;
 #[cfg(test)]
 mod expand;
+#[cfg(test)]
+mod forms;
 #[cfg(test)]
 mod frontier;
 #[cfg(test)]
@@ -48,6 +52,8 @@ mod packed_steps;
 mod packing;
 #[cfg(test)]
 mod pile;
+#[cfg(test)]
+mod plain_list;
 #[cfg(test)]
 mod proposals;
 #[cfg(test)]

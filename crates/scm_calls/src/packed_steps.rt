@@ -61,7 +61,7 @@ fn after(
     requires { layout.now.bits ≤ 64 }
 {
     assert!(rt; p < layout.procs() && op.cell() < layout.cells());
-    layout.step(word, p, op, &mut Steps::new())
+    layout.step(word, p, op, 0, &mut Steps::new())
 }
 
 /// Whether all operations can be made one process after the other, and the word then stands at their end.

@@ -146,34 +146,37 @@ fn schedules_beyond_the_budget(rt: HostRuntime) {
     );
 }
 
-/// Few values, reported process by process, and more situations than the budget: neither a search within it nor a walk that
-/// goes by known writers finds the one schedule.
+/// Few values, reported process by process, and more situations than the budget: a walk that goes by known writers finds no
+/// schedule, and beams do.
 #[test]
 fn few_values_beyond_the_budget(rt: HostRuntime) {
     expect_exchanges(
         &rt,
         rt.alloc(),
         "
-        a open t 3 20 x:w=0 y:w=0 => a ok
+        a open t 3 30 x:w=0 y:w=0 => a ok
         a claim t 0 => a ok
         a claim t 1 => a ok
         a claim t 2 => a ok
-        a do t 0 sw y 1 => a ok
         a do t 0 sw y 0 => a ok
-        a do t 0 sw y 0 => a ok
-        a do t 0 sw x 1 => a ok
-        a do t 0 rw y 1 2 => a ok
-        a do t 1 sw y 1 => a ok
-        a do t 1 lw y 1 => a ok
+        a do t 0 lw y 0 => a ok
+        a do t 0 rw y 0 1 => a ok
+        a do t 0 sw y 2 => a ok
+        a do t 0 sw y 2 => a ok
+        a do t 0 lw x 1 => a ok
+        a do t 1 sw x 1 => a ok
+        a do t 1 lw y 2 => a ok
+        a do t 1 sw x 1 => a ok
         a do t 1 sw x 0 => a ok
-        a do t 1 rw x 1 0 => a ok
-        a do t 1 rw x 0 2 => a ok
+        a do t 1 sw y 0 => a ok
+        a do t 1 lw x 0 => a ok
+        a do t 2 lw y 0 => a ok
+        a do t 2 lw y 0 => a ok
+        a do t 2 lw y 0 => a ok
+        a do t 2 lw x 1 => a ok
+        a do t 2 lw y 0 => a ok
         a do t 2 lw y 2 => a ok
-        a do t 2 rw x 1 1 => a ok
-        a do t 2 lw x 1 => a ok
-        a do t 2 lw x 1 => a ok
-        a do t 2 lw x 1 => a ok
-        a ask t => a consistent 15 0 0 0 1 1 1 0 0 2 2 2 2 2 1 1
+        a ask t => a consistent 18 2 2 2 0 0 1 2 2 0 0 1 2 1 0 0 1 1 1
         ",
     );
 }

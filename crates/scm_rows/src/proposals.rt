@@ -175,33 +175,36 @@ fn turns(rt: HostRuntime) -> Result<(), Fail> {
     Ok(())
 }
 
-/// A trace of few values with one schedule, in which most reads have several writers: the walk alone finds no way, and
-/// beams do, where the search that follows has less room than the counts tell apart.
+/// A trace of few values, in which most reads have several writers: the walk alone finds no way, and beams do, where the
+/// search that follows has less room than the counts tell apart.
 #[test]
 fn few_values(rt: HostRuntime) -> Result<(), Fail> {
     let first = [
-        write(1, 1),
         write(1, 0),
-        write(1, 0),
-        write(0, 1),
-        swap(1, 1, 2),
+        read(1, 0),
+        swap(1, 0, 1),
+        write(1, 2),
+        write(1, 2),
+        read(0, 1),
     ];
     let second = [
-        write(1, 1),
-        read(1, 1),
+        write(0, 1),
+        read(1, 2),
+        write(0, 1),
         write(0, 0),
-        swap(0, 1, 0),
-        swap(0, 0, 2),
+        write(1, 0),
+        read(0, 0),
     ];
     let third = [
+        read(1, 0),
+        read(1, 0),
+        read(1, 0),
+        read(0, 1),
+        read(1, 0),
         read(1, 2),
-        swap(0, 1, 1),
-        read(0, 1),
-        read(0, 1),
-        read(0, 1),
     ];
     let sequences = sequences_of(&rt, rt.alloc(), &[&first, &second, &third])?;
-    for (room, is_found) in [(0, false), (20, true), (216, false)] {
+    for (room, is_found) in [(0, false), (30, true), (343, false)] {
         let found = has_legal_proposal_from(&rt, rt.alloc(), &ZEROS, &sequences, &[], room);
         assert!(rt; found == is_found);
     }

@@ -1,0 +1,300 @@
+//! Sets of situations in words of 64 bits, of 128 bits and in full, beside a plain list.
+
+use crate::asked::{Asked, cells};
+use crate::plain_list::{PlainList, agree};
+use crate::traces::{read, swap, write};
+use scm_cells::Cells;
+use scm_frontier::Layout;
+use scm_reach::Settled;
+use scm_schedules::refutation;
+use scm_sequences::{Lengths, MOST_CELLS, MOST_PROCESSES, Op, Sequences};
+use std::alloc::Global;
+use std::process::Abort;
+use std::test::Fail;
+
+/// The narrowest form that has room for a trace.
+#[derive(Clone, Copy, PartialEq, Eq, Debug)]
+enum Form {
+    Short,
+    Long,
+    Wide,
+}
+
+fn narrowest(rt: &impl Abort, alloc: Global, asked: &Asked) -> Form {
+    let initials = asked.reach().initials();
+    let sequences = asked.sequences();
+    let is_below = sequences.names_cells_below(initials.len());
+    assert!(rt; is_below && initials.len() <= MOST_CELLS);
+    if Layout::of::<u64>(alloc, initials, sequences)
+        .expect(rt, "memory")
+        .is_some()
+    {
+        return Form::Short;
+    }
+    if Layout::of::<u128>(alloc, initials, sequences)
+        .expect(rt, "memory")
+        .is_some()
+    {
+        return Form::Long;
+    }
+    Form::Wide
+}
+
+/// These lengths of the first two processes, and 0 of the others.
+fn lengths_of(rt: &impl Abort, alloc: Global, procs: usize, first: [u32; 2]) -> Lengths {
+    assert!(rt; 2 <= procs && procs <= MOST_PROCESSES);
+    let mut counts = [0; MOST_PROCESSES];
+    counts[..2].copy_from_slice(&first);
+    Lengths::new(alloc, &counts[..procs])
+}
+
+/// Whether a question says what the plain list says, with the same refutation.
+fn is_right(rt: &impl Abort, alloc: Global, asked: &mut Asked, lengths: &Lengths) -> bool {
+    let settled = asked.ask(rt, lengths);
+    let reach = asked.reach();
+    let list = PlainList::of(rt, alloc, reach.initials(), asked.sequences(), lengths);
+    agree(rt, &list, asked.sequences(), lengths, settled, reach)
+        && (settled != Settled::Closed
+            || refutation(alloc, reach, lengths).expect(rt, "memory") == list.sorted(rt, alloc))
+}
+
+/// Whether that is so of the whole trace.
+fn is_right_at_the_end(rt: &impl Abort, alloc: Global, asked: &mut Asked) -> bool {
+    let lengths = asked.sequences().lengths();
+    is_right(rt, alloc, asked, &lengths)
+}
+
+/// A process that reads what nobody writes, and then writes these many values to each of so many cells: no situation
+/// more, but a longer word.
+fn add_ballast(rt: &impl Abort, asked: &mut Asked, p: usize, cells: u8, values: u64) {
+    for c in 1..cells {
+        asked.report(rt, p, read(c, 99));
+        for value in 1..=values {
+            asked.report(rt, p, write(c, value));
+        }
+    }
+}
+
+/// Two traces with the same operations of the first two processes: one whose form grows, and one that was wide from the
+/// start.
+#[derive(Drop)]
+struct Twins {
+    growing: Asked,
+    wide: Asked,
+}
+
+const PROCS: usize = 16;
+
+const CELLS: u8 = 30;
+
+impl Twins {
+    fn new(rt: &impl Abort, alloc: Global) -> Twins {
+        let cells = cells(rt, alloc, CELLS);
+        let growing = Asked::new(rt, alloc, &cells, PROCS);
+        let mut wide = Asked::new(rt, alloc, &cells, PROCS);
+        add_ballast(rt, &mut wide, 2, CELLS, 8);
+        assert!(rt; narrowest(rt, alloc, &growing) == Form::Short);
+        assert!(rt; narrowest(rt, alloc, &wide) == Form::Wide);
+        Twins { growing, wide }
+    }
+
+    fn report(&mut self, rt: &impl Abort, p: usize, op: Op) {
+        self.growing.report(rt, p, op);
+        self.wide.report(rt, p, op);
+    }
+
+    /// What a question says of both, which is what the plain list says.
+    fn ask(&mut self, rt: &impl Abort, alloc: Global, first: [u32; 2]) {
+        let lengths = lengths_of(rt, alloc, PROCS, first);
+        assert!(rt; is_right(rt, alloc, &mut self.growing, &lengths));
+        assert!(rt; is_right(rt, alloc, &mut self.wide, &lengths));
+    }
+
+    fn go_back(&mut self, rt: &impl Abort, alloc: Global, first: [u32; 2]) {
+        let lengths = lengths_of(rt, alloc, PROCS, first);
+        self.growing.go_back(rt, &lengths);
+        self.wide.go_back(rt, &lengths);
+    }
+
+    /// Lets the form grow to this one, by values that no situation holds.
+    fn grow(&mut self, rt: &impl Abort, alloc: Global, values: u64, to: Form) {
+        add_ballast(rt, &mut self.growing, 3, CELLS, values);
+        assert!(rt; narrowest(rt, alloc, &self.growing) == to);
+    }
+}
+
+/// The first process writes two cells, the second reads them; the cell of number 0 is open at first.
+fn begin(rt: &impl Abort, twins: &mut Twins) {
+    twins.report(rt, 0, read(0, u64::MAX));
+    twins.report(rt, 0, write(1, 5));
+    twins.report(rt, 1, swap(1, 0, 6));
+    twins.report(rt, 1, write(0, u64::MAX));
+}
+
+/// A store that was seen and one that never is.
+fn go_on(rt: &impl Abort, twins: &mut Twins) {
+    twins.report(rt, 0, write(2, u64::MAX));
+    twins.report(rt, 1, read(2, u64::MAX));
+    twins.report(rt, 1, read(1, 5));
+    twins.report(rt, 0, read(1, 77));
+}
+
+#[test]
+fn answers_stay_as_the_form_grows(rt: HostRuntime) {
+    let mut twins = Twins::new(&rt, rt.alloc());
+    begin(&rt, &mut twins);
+    twins.ask(&rt, rt.alloc(), [2, 2]);
+    twins.grow(&rt, rt.alloc(), 1, Form::Long);
+    twins.ask(&rt, rt.alloc(), [2, 2]);
+    go_on(&rt, &mut twins);
+    twins.ask(&rt, rt.alloc(), [3, 4]);
+    twins.grow(&rt, rt.alloc(), 8, Form::Wide);
+    twins.ask(&rt, rt.alloc(), [2, 2]);
+    twins.ask(&rt, rt.alloc(), [4, 4]);
+}
+
+#[test]
+fn answers_stay_on_the_way_back(rt: HostRuntime) {
+    let mut twins = Twins::new(&rt, rt.alloc());
+    begin(&rt, &mut twins);
+    twins.ask(&rt, rt.alloc(), [2, 1]);
+    twins.grow(&rt, rt.alloc(), 1, Form::Long);
+    go_on(&rt, &mut twins);
+    twins.ask(&rt, rt.alloc(), [4, 4]);
+    twins.go_back(&rt, rt.alloc(), [2, 1]);
+    twins.ask(&rt, rt.alloc(), [2, 1]);
+    twins.grow(&rt, rt.alloc(), 8, Form::Wide);
+    go_on(&rt, &mut twins);
+    twins.ask(&rt, rt.alloc(), [4, 3]);
+    twins.go_back(&rt, rt.alloc(), [1, 0]);
+    twins.ask(&rt, rt.alloc(), [1, 0]);
+    go_on(&rt, &mut twins);
+    twins.ask(&rt, rt.alloc(), [3, 2]);
+}
+
+/// A trace of 32 processes, of which the others do this so many times and can't go on.
+fn blocked(rt: &impl Abort, alloc: Global, cells: &Cells, times: u8) -> Asked {
+    let mut asked = Asked::new(rt, alloc, cells, MOST_PROCESSES);
+    for p in 2..MOST_PROCESSES {
+        for _ in 0..times {
+            asked.report(rt, p, read(2, 9));
+        }
+    }
+    asked
+}
+
+/// The first two processes write and read one value, and then that again so many times.
+fn add_pair(rt: &impl Abort, asked: &mut Asked, times: u8) {
+    asked.report(rt, 0, write(1, u64::MAX));
+    for _ in 0..times {
+        asked.report(rt, 1, read(1, u64::MAX));
+    }
+}
+
+/// One bit for each of 32 counts and 32 cells fills 64 bits. Two for each of 30 counts, one and three for the others and one
+/// for each of 64 cells fill 128.
+#[test]
+fn words_are_full_to_the_last_bit(rt: HostRuntime) {
+    for (n, times, more, wanted) in [
+        (32, 1, 1, Form::Short),
+        (33, 1, 1, Form::Long),
+        (32, 1, 2, Form::Long),
+        (64, 3, 4, Form::Long),
+        (64, 3, 8, Form::Wide),
+    ] {
+        let mut asked = blocked(&rt, rt.alloc(), &cells(&rt, rt.alloc(), n), times);
+        add_pair(&rt, &mut asked, more);
+        assert!(rt; narrowest(&rt, rt.alloc(), &asked) == wanted);
+        assert!(rt; is_right_at_the_end(&rt, rt.alloc(), &mut asked));
+        let lengths = lengths_of(&rt, rt.alloc(), MOST_PROCESSES, [1, u32::from(more)]);
+        assert!(rt; is_right(&rt, rt.alloc(), &mut asked, &lengths));
+    }
+}
+
+/// A trace of two processes and three cells, the first of which is open at first.
+fn small(rt: &impl Abort, alloc: Global, operations: &[(usize, Op)]) -> Asked {
+    let mut asked = Asked::new(rt, alloc, &cells(rt, alloc, 3), 2);
+    for (p, op) in operations {
+        asked.report(rt, *p, *op);
+    }
+    asked
+}
+
+/// Reads of what nobody writes, beside values that are written; the last of these traces is consistent.
+#[test]
+fn a_value_that_is_only_read_is_no_other(rt: HostRuntime) {
+    let traces: [&[(usize, Op)]; 5] = [
+        &[(0, read(1, 7))],
+        &[(0, write(1, 1)), (1, read(1, 7)), (1, write(1, 7))],
+        &[(0, read(0, 3)), (1, read(0, 4))],
+        &[
+            (0, swap(1, 0, u64::MAX)),
+            (1, swap(1, u64::MAX, 0)),
+            (0, swap(1, 1, 2)),
+        ],
+        &[
+            (0, read(0, 3)),
+            (1, read(0, 3)),
+            (1, swap(0, 3, u64::MAX)),
+            (0, read(0, u64::MAX)),
+        ],
+    ];
+    for operations in traces {
+        let mut asked = small(&rt, rt.alloc(), operations);
+        assert!(rt; is_right_at_the_end(&rt, rt.alloc(), &mut asked));
+    }
+}
+
+/// Numbers that look random, the same in every run.
+#[derive(Drop)]
+struct Numbers {
+    state: u64,
+}
+
+impl Numbers {
+    fn below(&mut self, n: u8) -> u8 {
+        self.state = self
+            .state
+            .wrapping_mul(6_364_136_223_846_793_005)
+            .wrapping_add(1_442_695_040_888_963_407);
+        let high = (self.state >> 56) as u8;
+        if n == 0 { 0 } else { high % n }
+    }
+
+    fn value(&mut self) -> u64 {
+        match self.below(4) {
+            3 => u64::MAX,
+            small => u64::from(small),
+        }
+    }
+
+    fn operation(&mut self) -> Op {
+        let cell = self.below(3);
+        match self.below(3) {
+            0 => read(cell, self.value()),
+            1 => write(cell, self.value()),
+            _ => swap(cell, self.value(), self.value()),
+        }
+    }
+}
+
+/// Reports an operation, and asks about it now and then.
+fn report_next(rt: &impl Abort, alloc: Global, asked: &mut Asked, numbers: &mut Numbers) {
+    assert!(rt; asked.sequences().procs() == 3);
+    asked.report(rt, usize::from(numbers.below(3)), numbers.operation());
+    if numbers.below(3) == 0 {
+        assert!(rt; is_right_at_the_end(rt, alloc, asked));
+    }
+}
+
+#[test]
+fn generated_traces_are_judged_as_by_a_plain_list(rt: HostRuntime) {
+    let mut numbers = Numbers { state: 1 };
+    for _ in 0..150 {
+        let mut asked = Asked::new(&rt, rt.alloc(), &cells(&rt, rt.alloc(), 3), 3);
+        for _ in 0..9 {
+            report_next(&rt, rt.alloc(), &mut asked, &mut numbers);
+        }
+        assert!(rt; is_right_at_the_end(&rt, rt.alloc(), &mut asked));
+    }
+}
