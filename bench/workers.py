@@ -5,6 +5,8 @@
 
 Nothing fails for being slow, only for a wrong reply. Numbers of a busy machine say little."""
 import os
+import random
+import resource
 import subprocess
 import sys
 import time
@@ -16,6 +18,10 @@ REPORTS = 400_000
 SILENCE = 10.0
 REPEATS = 5
 SESSIONS = 8
+LIVE = 3_000  # reports of a live script, with a question after each
+PAUSES = (0.003, 0.010, 0.050)  # seconds before a question
+GAPS = (0.001, 0.005)  # seconds from one line to the next
+STREAM = 3.0  # seconds of such lines
 TICKS = os.sysconf("SC_CLK_TCK")
 
 
@@ -82,7 +88,7 @@ def measure_silence(program):
 
 
 def reports_a_second(program, workers):
-    """Reports to another trace, while the workers fill the set of a large one."""
+    """Reports to another trace, while a large one has much to be found; workers sleep, since lines come without a pause."""
     run = Run(program, workers)
     run.send([*forbidden("t", WRITERS, BUDGET), *opened("u", 2, BUDGET, ["x"])])
     lines = ["a do u 0 sw x 1", "a do u 1 lw x 1"] * 500
@@ -97,12 +103,66 @@ def reports_a_second(program, workers):
 
 
 def measure_reports(program):
-    rates = {0: [], 4: []}
+    rates = {0: [], 4: [], 16: []}
     for _ in range(REPEATS):
         for workers, found in rates.items():
             found.append(reports_a_second(program, workers))
-    alone, beside = (max(found) for found in rates.values())
-    print(f"reports: {alone:,.0f} a second without workers, {beside:,.0f} beside 4: {beside / alone:.0%}")
+    alone = max(rates.pop(0))
+    print(f"reports: {alone:,.0f} a second without workers")
+    for workers, found in rates.items():
+        print(f"reports: {max(found):,.0f} a second beside {workers} workers that sleep: {max(found) / alone:.0%}")
+
+
+def stream(program, workers, gap):
+    """A line each so many seconds, while a large trace has much to be found: replies a second, the seconds to a reply in the
+    middle and at most, and the seconds of processor time in one."""
+    run = Run(program, workers)
+    run.send([*forbidden("t", WRITERS, BUDGET), *opened("u", 2, BUDGET, ["x"])])
+    lines, times = ("a do u 0 sw x 1", "a do u 1 lw x 1"), []
+    before, begin = run.processor_time(), time.perf_counter()
+    while (now := time.perf_counter() - begin) < STREAM:
+        time.sleep(max(0.0, len(times) * gap - now))
+        replies, took = run.send([lines[len(times) % 2]])
+        expect(replies == ["a ok"], replies[0])
+        times.append(took)
+    busy = run.processor_time() - before
+    run.end()
+    times.sort()
+    return len(times) / now, times[len(times) // 2], times[-1], busy / now
+
+
+def measure_stream(program):
+    print("\na line each so many milliseconds, while a large trace has much to be found")
+    print(f"{'ms':>4} {'workers':>8} {'replies/s':>10} {'a reply, ms':>12} {'at most, ms':>12} {'processor s/s':>14}")
+    for gap in GAPS:
+        for workers in (0, 4, 16):
+            rate, middle, longest, busy = stream(program, workers, gap)
+            print(f"{gap * 1e3:>4.0f} {workers:>8} {rate:>10.0f} {middle * 1e3:>12.3f} {longest * 1e3:>12.3f} {busy:>14.2f}")
+
+
+def question_after(program, workers, pause):
+    """The seconds of a question so many seconds after the last line before it."""
+    run = Run(program, workers)
+    run.send(forbidden("t", CLOSED, BUDGET))
+    time.sleep(pause)
+    replies, asked = run.send(["a ask t"])
+    expect(replies == ["a inconsistent"], replies[0])
+    run.end()
+    return asked
+
+
+def measure_pauses(program):
+    counts = (0, 2, 4, 16)
+    print(f"\na question that no schedule decides, {(STORES + 1) ** CLOSED:,} situations, so long after the last line: its time "
+          f"in the middle of {REPEATS} runs, ms")
+    print(f"{'pause, ms':>10} " + " ".join(f"{workers:>8} workers" for workers in counts))
+    for pause in PAUSES:
+        times = {workers: [] for workers in counts}
+        for _ in range(REPEATS):
+            for workers, found in times.items():
+                found.append(question_after(program, workers, pause))
+        shown = " ".join(f"{sorted(found)[len(found) // 2] * 1e3:>16.1f}" for found in times.values())
+        print(f"{pause * 1e3:>10.0f} {shown}")
 
 
 def measure_question(program, workers):
@@ -124,7 +184,7 @@ def measure_pay(program):
     situations = (STORES + 1) ** CLOSED
     print(f"\na question that no schedule decides, {situations:,} situations, after a pause")
     print(f"{'workers':>8} {'question, ms':>13} {'workers ended after, s':>23} {'processor time, s':>18} {'situations/s':>13}")
-    for workers in (0, 1, 2, 4):
+    for workers in (0, 1, 2, 4, 16):
         asked, pause, busy = min(measure_question(program, workers) for _ in range(3))
         rate = situations / (pause if workers else asked)
         print(f"{workers:>8} {asked * 1e3:>13.2f} {pause if workers else 0:>23.2f} {busy:>18.2f} {rate:>13,.0f}")
@@ -175,11 +235,59 @@ def measure_sessions(program):
           f"{in_order:.2f} s in order, {apart:.2f} s with --each")
 
 
+def in_order(trace, processes, reports, seed):
+    """Accesses at random, in the order of their happening, with a question after each."""
+    chance, cells = random.Random(seed), ["x", "y", "z"]
+    held = dict.fromkeys(cells, 0)
+    lines = opened(trace, processes, 1_000_000, cells)
+    for number in range(1, reports + 1):
+        process, cell = chance.randrange(processes), chance.choice(cells)
+        if chance.random() < 0.5:
+            held[cell] = number
+            lines.append(f"a do {trace} {process} sw {cell} {number}")
+        else:
+            lines.append(f"a do {trace} {process} lw {cell} {held[cell]}")
+        lines.append(f"a ask {trace}")
+    return lines
+
+
+def live_scripts():
+    """Live scripts by what they are: a question after each report, and all of them consistent."""
+    yield from ((f"{processes} processes", in_order("t", processes, LIVE, processes)) for processes in (2, 4, 8))
+    small = [line for number in range(150) for line in [*in_order("t", 3, 20, number), "a close t"]]
+    yield "150 small traces", small
+
+
+def costs(program, script, workers):
+    """The seconds that a script takes, and its seconds of processor time."""
+    before, begin = resource.getrusage(resource.RUSAGE_CHILDREN), time.perf_counter()
+    ended = subprocess.run([program, "--workers", str(workers)], input=script, capture_output=True, check=True)
+    seconds, after = time.perf_counter() - begin, resource.getrusage(resource.RUSAGE_CHILDREN)
+    expect(b" refused " not in ended.stdout and b" inconsistent\n" not in ended.stdout, ended.stdout[-200:])
+    return seconds, after.ru_utime + after.ru_stime - before.ru_utime - before.ru_stime
+
+
+def measure_live(program):
+    print(f"\na question after each report, {LIVE:,} reports or small traces: seconds (of processor time)")
+    print(f"{'':>18} {'0 workers':>16} {'2 workers':>16} {'16 workers':>16}")
+    for name, lines in live_scripts():
+        script = "".join(line + "\n" for line in lines).encode()
+        found = {0: [], 2: [], 16: []}
+        for _ in range(REPEATS):
+            for workers, times in found.items():
+                times.append(costs(program, script, workers))
+        shown = (f"{min(it[0] for it in times):.2f} ({min(it[1] for it in times):.2f})" for times in found.values())
+        print(f"{name:>18} " + " ".join(f"{it:>16}" for it in shown))
+
+
 def main():
     program = os.path.abspath(sys.argv[1])
     print(f"machine: {os.cpu_count()} processors, load {os.getloadavg()[0]:.1f}")
     measure_silence(program)
     measure_reports(program)
+    measure_stream(program)
+    measure_live(program)
+    measure_pauses(program)
     measure_pay(program)
     measure_end(program)
     measure_sessions(program)

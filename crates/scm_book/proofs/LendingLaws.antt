@@ -48,6 +48,12 @@ module _ (machine : Machine) (sets new : List (List ℕ × Kept)) (name : List �
   lent_of mark state old kept (Some q) there found lends written =
       record { state = state; there = there; lent = record { before = old; after = kept; found = found; leads = lends; written = written } }
 
+  -- the same of what is lent for work
+  pub lent_work_of : (state : TraceState) (old kept : Kept) (lent : Option Inquired) → trace_named machine name ≡ Some state → set_named sets name ≡ Some old
+      → MatchOption lent (kept ≡ old) (λ q. Lends name None state old q kept) → new ≡ set_value (name_eq name) sets kept → MatchOption lent (new ≡ sets) (λ q. IsLentOf machine sets q.name None q new)
+  lent_work_of state old kept None there found same written = lent_of None state old kept None there found same written
+  lent_work_of state old kept (Some q) there found lends written = subst (λ n. IsLentOf machine sets n None q new) (sym lends.named) (lent_of None state old kept (Some q) there found lends written)
+
   pub taken_none : (q : Inquired) → name ≡ q.name → trace_named machine name ≡ None → new ≡ sets → IsTakenBack machine sets q new
   taken_none q is none same = subst (λ n. MatchOption (trace_named machine n) (new ≡ sets) (λ state. Becomes sets n (TakesBack state q) new)) is
       (subst (λ o. MatchOption o (new ≡ sets) (λ state. Becomes sets name (TakesBack state q) new)) (sym none) same)

@@ -6,7 +6,7 @@ ghost use Rattle.scm_book.specs.Machine.{empty_machine};
 ghost use Rattle.scm_book.specs.Sets.{HasRoom, HasRoomFor, HoldsFor, LeavesSets, SearchesSet};
 ghost use Rattle.scm_results.specs.Totals.{capped, none_counted};
 ghost use Rattle.scm_book.specs.Workers.{IsTaking, IsDelivery, OffersNothingNew};
-ghost use Rattle.scm_book.specs.Inquiries.{IsLending, IsTakingBack};
+ghost use Rattle.scm_book.specs.Inquiries.{IsLending, IsLendingForWork, IsTakingBack};
 ghost use Rattle.scm_book.specs.Changes.{tells_of_change};
 ghost use Rattle.scm_book.specs.Journal.{count_of as count_in, GivesCopies, IsCall, IsLegalBook};
 
@@ -148,6 +148,33 @@ impl Book {
         match call {
             Call::Ask { name, mark } | Call::Why { name, mark } => self.traces.lend(name, *mark),
             _ => None,
+        }
+    }
+
+    /// The set of a trace, to be searched with no book at hand for what questions will want, as the question whether the trace
+    /// is consistent; the start alone stays in its place. `None`, with everything as it was, where no trace wants it, where the
+    /// first one that might turns out to have a schedule or a settled set, or memory is refused: `may_want_work` tells whether to
+    /// try again. Neither machine nor journal changes.
+    pub fn lend_work(&mut self) -> Option<Inquiry>
+        ensures lends { IsLendingForWork self.old result self.new }
+        ensures legal { IsLegalBook self.new }
+    {
+        self.traces.lend_work()
+    }
+
+    /// Whether a trace may want work: it grew since it was looked at for work, or something was left. Nothing rests on it.
+    pub fn may_want_work(&self) -> bool {
+        self.traces.may_want_work()
+    }
+
+    /// Whether the call is a question that would search a set which is lent for work, and so does well to wait until it was
+    /// taken back. Nothing rests on it.
+    pub fn awaits_set(&self, call: &Call) -> bool {
+        match call {
+            Call::Ask { name, mark } | Call::Why { name, mark } => {
+                self.traces.awaits_set(name, *mark)
+            }
+            _ => false,
         }
     }
 

@@ -12,6 +12,7 @@ ghost use Rattle.scm_book.specs.Refusals.{trace_cause, claim_cause, release_caus
 ghost use Rattle.scm_book.specs.Showing.{shown_operations};
 
 mod asking;
+mod attention;
 mod lending;
 mod refuting;
 mod working;
@@ -20,6 +21,8 @@ use crate::declarations::declare_cells;
 use crate::earlier::Earlier;
 use crate::showing::show_all;
 use crate::{Decl, Shown};
+use attention::Attention;
+pub(crate) use attention::Purpose;
 use scm_budget::Budget;
 use scm_cells::Cells;
 use scm_lowering::{Access, lower};
@@ -43,6 +46,8 @@ pub(crate) struct OpenTrace {
     reach: Reach,
     // So do the last schedule and the order of the reports, for their proposals.
     earlier: Earlier,
+    // What workers have to know of it.
+    attention: Attention,
 }
 
 impl Model for OpenTrace {
@@ -105,6 +110,7 @@ impl OpenTrace {
             marks: Marks::new(alloc),
             reach,
             earlier: Earlier::new(alloc),
+            attention: Attention::new(),
         })
     }
 
@@ -156,6 +162,7 @@ impl OpenTrace {
         self.sequences.push(process, op)?;
         self.reach.grown(process);
         self.earlier.report(process);
+        self.attention.change();
         Ok(())
     }
 
@@ -208,6 +215,7 @@ impl OpenTrace {
         self.reach.cut(&self.sequences, lengths);
         self.sequences.cut(lengths);
         self.earlier.cut(lengths);
+        self.attention.change();
         self.marks.back(mark);
         Ok(())
     }
@@ -221,6 +229,7 @@ impl OpenTrace {
     {
         self.check_owner(session)?;
         self.earlier.retry();
+        self.attention.retry();
         self.budget.raise(budget)
     }
 

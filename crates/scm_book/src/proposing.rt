@@ -65,10 +65,14 @@ impl Proposing<'_> {
         Vec::from_slice(self.alloc, self.earlier.reported(self.lengths)?).ok()
     }
 
-    /// What the heuristic proposes, before a search of what the limit leaves beside this set.
+    /// What the heuristic proposes, before a search of what the limit leaves beside this set, or in place of one where the set
+    /// is full.
     fn proposed(&self, reach: &Reach) -> Option<Vec<u8>> {
         let earlier = self.earlier.schedule();
-        let room = self.limit.saturating_sub(reach.held());
+        let room = match self.limit.saturating_sub(reach.held()) {
+            0 => self.limit,
+            room => room,
+        };
         propose(
             self.alloc,
             reach.initials(),
@@ -110,16 +114,16 @@ impl Proposing<'_> {
         requires { CanJudge self.now.sequences.now self.now.lengths.now reach.now.initials }
         ensures { IfSome result (λ schedule. IsSchedule (cut_to (trace_of reach.now.initials self.now.sequences.now) self.now.lengths.now) (reverse schedule.items)) }
     {
-        if self.earlier.has_failed(self.lengths) || self.is_settled(reach) {
+        if self.earlier.has_failed(self.lengths) {
             return None;
         }
-        if self.is_search_short(reach)? {
+        if let Some(schedule) = self.known(reach) {
+            return Some(schedule);
+        }
+        if self.is_settled(reach) || self.is_search_short(reach)? {
             return None;
         }
-        match self.known(reach) {
-            Some(schedule) => Some(schedule),
-            None => self.judged(reach, self.proposed(reach)),
-        }
+        self.judged(reach, self.proposed(reach))
     }
 
     /// Whether the question is likely to take long: there may be many situations, the set is neither full nor near to the
@@ -135,6 +139,20 @@ impl Proposing<'_> {
         }
         let is_known = !self.earlier.has_failed(self.lengths) && self.known(reach).is_some();
         !is_known && !self.is_settled(reach)
+    }
+
+    /// Whether a schedule is known.
+    pub(crate) fn is_explained(&self, reach: &Reach) -> bool
+        requires { CanJudge self.now.sequences.now self.now.lengths.now reach.now.initials }
+    {
+        self.known(reach).is_some()
+    }
+
+    /// Whether a question about the trace would search: the set has room and hasn't the answer, and no schedule is known.
+    pub(crate) fn wants_work(&self, reach: &Reach) -> bool
+        requires { CanJudge self.now.sequences.now self.now.lengths.now reach.now.initials }
+    {
+        reach.held() < self.limit && !self.is_explained(reach) && !self.is_settled(reach)
     }
 
     /// Whether there are few situations at most, by the lengths or by the limit.

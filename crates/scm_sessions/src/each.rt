@@ -17,7 +17,6 @@ use crate::jobs::{Job, jobs_of};
 use crate::reading::LineReader;
 use crate::{Ended, Findings, Port, RunFault};
 use scm_expand::Gate;
-use scm_results::Tally;
 use scm_shared::{BookNaming, BookToken, SharedBook};
 use std::alloc::Global;
 use std::io::{Read, Write};
@@ -47,7 +46,7 @@ fn read_groups<R: Read>(
     }
 }
 
-/// Answers the lines of all groups beside workers, which end with them. Gives the tallies of workers and collector.
+/// Answers the lines of all groups beside workers, which end with them.
 fn answer_jobs<B: BookNaming + Send + Sync, G: Gate + Sync, T: Threads + Wait + Sync>(
     rt: &T,
     alloc: Global,
@@ -55,15 +54,15 @@ fn answer_jobs<B: BookNaming + Send + Sync, G: Gate + Sync, T: Threads + Wait + 
     jobs: &mut Vec<Job<B>>,
     gate: &G,
     workers: usize,
-) -> Vec<Tally<B>>
+)
     requires { All (λ group. All (λ line. has_reply line.asked ≡ true) group.lines) jobs.old.items }
     ensures answered { AllAnswered jobs.old.items jobs.new.items }
     ensures each { length jobs.new.items ≡ length jobs.old.items }
 {
-    answer_beside_workers::<B, G, T>(rt, alloc, book, jobs.as_mut_slice(), gate, workers)
+    answer_beside_workers::<B, G, T>(rt, alloc, book, jobs.as_mut_slice(), gate, workers);
 }
 
-/// Runs a script over a new book with a thread for each session, while `workers` threads and a collector look for situations
+/// Runs a script over a new book with a thread for each session, while `workers` threads look for situations
 /// that questions will want. The script is read whole, and its lines are grouped by the names that they begin with, in the order
 /// in which they first come; lines without a name are a group too. The names with a call enter in this order, then the lines of
 /// each are answered in a thread of its own, and at the end the replies are written group by group. What was found goes into
@@ -112,7 +111,7 @@ pub fn run_each<
     let book = SharedBook::<B>::new(alloc, token);
     let mut jobs = jobs_of(rt, alloc, &book, groups)?;
     let (mut names, passes) = room_for(alloc, jobs.len())?;
-    let tallies = answer_jobs::<B, G, T>(rt, alloc, &book, &mut jobs, gate, workers);
+    answer_jobs::<B, G, T>(rt, alloc, &book, &mut jobs, gate, workers);
     write_groups(writer, jobs.as_slice())?;
     if reader.failed() {
         return Err(RunFault::ReadFailed);
@@ -121,7 +120,7 @@ pub fn run_each<
     *findings = found;
     let passes = gathered(jobs, &mut names, passes);
     Ok(Ended {
-        audit: book.audit(passes, tallies),
+        audit: book.audit(passes, Vec::new(alloc)),
         names,
     })
 }

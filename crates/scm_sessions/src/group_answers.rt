@@ -10,10 +10,9 @@ use crate::asking::Asked;
 use crate::jobs::Job;
 use crate::numbered::NumberedLine;
 use scm_book::Reply;
-use scm_expand::{Gate, run_workers};
-use scm_results::Tally;
+use scm_expand::Gate;
 use scm_sequences::{MOST_SESSIONS, Refusal};
-use scm_shared::{BookNaming, Pass, SharedBook};
+use scm_shared::{BookNaming, Pass, SharedBook, run_searchers};
 use std::alloc::Global;
 use std::sync::Wait;
 use std::thread;
@@ -84,26 +83,18 @@ fn answer_groups<B: BookNaming + Send + Sync, T: Threads + Wait + Sync>(
     book.stop_workers();
 }
 
-/// Answers the lines of all groups beside workers, which end with them. Gives the tallies of workers and collector.
+/// Answers the lines of all groups beside workers, which end with them.
 pub(crate) fn answer_beside_workers<
     B: BookNaming + Send + Sync,
     G: Gate + Sync,
     T: Threads + Wait + Sync,
->(
-    rt: &T,
-    alloc: Global,
-    book: &SharedBook<B>,
-    groups: &mut [Job<B>],
-    gate: &G,
-    workers: usize,
-) -> Vec<Tally<B>>
+>(rt: &T, alloc: Global, book: &SharedBook<B>, groups: &mut [Job<B>], gate: &G, workers: usize)
     requires { All (λ group. All (λ line. has_reply line.asked ≡ true) group.lines) groups.old }
     ensures { AllAnswered groups.old groups.new }
 {
-    let mut work = || run_workers::<B, SharedBook<B>, G, T>(rt, alloc, book, gate, workers);
+    let mut work = || run_searchers(rt, alloc, book, gate, workers);
     let mut answer = ||
         requires { All (λ group. All (λ line. has_reply line.asked ≡ true) group.lines) groups.now }
     { answer_groups(rt, book, groups) };
-    let (tallies, ()) = join_mut(rt, &mut work, &mut answer);
-    tallies.unwrap_or(Vec::new(alloc))
+    join_mut(rt, &mut work, &mut answer);
 }

@@ -15,10 +15,9 @@ use crate::run::run_lines;
 use crate::shared_sessions::SharedSessions;
 use crate::{Ended, Findings, Port, RunFault};
 use scm_cells::Name;
-use scm_expand::{Gate, run_workers};
-use scm_results::Tally;
+use scm_expand::Gate;
 use scm_sequences::MOST_SESSIONS;
-use scm_shared::{BookNaming, BookToken, Pass, SharedBook};
+use scm_shared::{BookNaming, BookToken, Pass, SharedBook, run_searchers};
 use std::alloc::Global;
 use std::io::{Read, Write};
 use std::sync::Wait;
@@ -62,8 +61,8 @@ fn run_and_stop<'a, B: BookNaming, T: Wait, R: Read, W: Write>(
     Ok((sessions.into_parts(names), findings))
 }
 
-/// Runs the script over this book beside workers, which end with it. Gives the tallies of workers and collector, and the passes
-/// of the sessions, whose names go into `names`, in the order of their entry, with what the run found.
+/// Runs the script over this book beside workers, which end with it. Gives the passes of the sessions, whose names go into
+/// `names`, in the order of their entry, with what the run found.
 fn run_beside_workers<
     B: BookNaming + Send + Sync,
     R: Read,
@@ -80,40 +79,40 @@ fn run_beside_workers<
     writer: &mut Port<W>,
     gate: &G,
     workers: usize,
-) -> (Vec<Tally<B>>, Result<(Vec<Pass<B>>, Findings), RunFault>)
+) -> Result<(Vec<Pass<B>>, Findings), RunFault>
     requires empty { names.old.items ≡ [] }
     requires fits { MOST_SESSIONS ≤ vec_capacity names.old }
     requires fresh { unread_of lines.old ≡ [] }
     requires reads { has_failed reader.old ≡ false }
     requires writes { has_failed writer.old ≡ false }
-    ensures ok { IfOk result.1 (λ ended. RunsCallers (R.remaining (inner_of reader.old)) (R.remaining (inner_of reader.new))
+    ensures ok { IfOk result (λ ended. RunsCallers (R.remaining (inner_of reader.old)) (R.remaining (inner_of reader.new))
         (W.contents (inner_of writer.old)) (W.contents (inner_of writer.new)) names.new.items ended.0.items ended.1) }
-    ensures each { IfOk result.1 (λ ended. length ended.0.items ≡ length names.new.items) }
-    ensures numbered { IfOk result.1 (λ ended. AreNumberedFrom 0 ended.0.items) }
-    ensures read_failed { IsErrOf result.1 RunFault.ReadFailed →
+    ensures each { IfOk result (λ ended. length ended.0.items ≡ length names.new.items) }
+    ensures numbered { IfOk result (λ ended. AreNumberedFrom 0 ended.0.items) }
+    ensures read_failed { IsErrOf result RunFault.ReadFailed →
         RunsWholeLines (R.remaining (inner_of reader.old)) (R.remaining (inner_of reader.new))
         (W.contents (inner_of writer.old)) (W.contents (inner_of writer.new)) AllFit }
-    ensures write_failed { IsErrOf result.1 RunFault.WriteFailed →
+    ensures write_failed { IsErrOf result RunFault.WriteFailed →
         RunsPart (R.remaining (inner_of reader.old)) (R.remaining (inner_of reader.new))
         (W.contents (inner_of writer.old)) (W.contents (inner_of writer.new)) AllFit }
-    ensures reader_failed { IsErrOf result.1 RunFault.ReadFailed ↔ (has_failed reader.new ≡ true) }
-    ensures writer_failed { IsErrOf result.1 RunFault.WriteFailed ↔ (has_failed writer.new ≡ true) }
-    ensures memory { IfErr result.1 (λ fault. fault ≢ RunFault.NoMemory) }
+    ensures reader_failed { IsErrOf result RunFault.ReadFailed ↔ (has_failed reader.new ≡ true) }
+    ensures writer_failed { IsErrOf result RunFault.WriteFailed ↔ (has_failed writer.new ≡ true) }
+    ensures memory { IfErr result (λ fault. fault ≢ RunFault.NoMemory) }
 {
-    let mut work = || run_workers::<B, SharedBook<B>, G, T>(rt, alloc, book, gate, workers);
+    let mut work = || run_searchers(rt, alloc, book, gate, workers);
     let mut script = || run_and_stop(rt, alloc, book, names, lines, reader, writer);
-    let (tallies, ran) = join_mut(rt, &mut work, &mut script);
-    (tallies.unwrap_or(Vec::new(alloc)), ran)
+    let ((), ran) = join_mut(rt, &mut work, &mut script);
+    ran
 }
 
-/// Runs a script over a new book, in its order on the caller's thread, while `workers` threads and a collector look for
-/// situations that questions will want. Ends with the book's audit and the names of the sessions, a name's place being the
+/// Runs a script over a new book, in its order on the caller's thread, while `workers` threads look for situations that
+/// questions will want. Ends with the book's audit and the names of the sessions, a name's place being the
 /// number of its session, and with what it found in `findings`.
 ///
 /// Each reply is written and flushed before more bytes are asked for, as far as whole lines were read. The run ends
 /// early where the reader or the writer fails. It fails with `NoMemory` before the first read alone; a line for which
 /// memory is refused later is answered so, and the run goes on. Where no thread can be started, or memory for workers is
-/// refused, it goes on without workers. Workers and collector have ended when it ends.
+/// refused, it goes on without workers. Workers have ended when it ends.
 pub fn run_with_workers<
     B: BookNaming + Send + Sync,
     R: Read,
@@ -155,13 +154,13 @@ pub fn run_with_workers<
         return Err(RunFault::NoMemory);
     };
     let book = SharedBook::<B>::new(alloc, token);
-    let (tallies, ran) = run_beside_workers::<B, R, W, G, T>(
+    let ran = run_beside_workers::<B, R, W, G, T>(
         rt, alloc, &book, &mut names, &mut lines, reader, writer, gate, workers,
     );
     let (passes, found) = ran?;
     *findings = found;
     Ok(Ended {
-        audit: book.audit(passes, tallies),
+        audit: book.audit(passes, Vec::new(alloc)),
         names,
     })
 }

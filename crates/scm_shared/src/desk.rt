@@ -5,7 +5,7 @@ ghost use Rattle.scm_sequences.specs.declared.limits.TheConstants.{MOST_SESSIONS
 ghost use Rattle.scm_results.specs.Tallies.{nothing_counted};
 ghost use Rattle.scm_book.specs.Calls.{call_data, reply_data, refused};
 ghost use Rattle.scm_book.specs.Journal.{makes_entry, IsCall, IsUnchanged};
-ghost use Rattle.scm_book.specs.Inquiries.{IsLending, IsTakingBack};
+ghost use Rattle.scm_book.specs.Inquiries.{IsLending, IsLendingForWork, IsTakingBack};
 ghost use Rattle.scm_book.specs.Workers.{IsTaking, IsDelivery};
 ghost use Rattle.scm_shared.specs.Desks.{IsRefusedRoom};
 ghost use Rattle.scm_shared.specs.Passes.{newcomer, Extended, SeenFull};
@@ -169,6 +169,20 @@ impl<B: BookNaming> Desk<B> {
     {
         self.book.take_back(inquiry);
         self.call(hall, pass, call)
+    }
+
+    /// The set of a trace, lent for work.
+    pub(crate) fn lend_work(&mut self) -> Option<Inquiry>
+        ensures book { IsLendingForWork self.old.book result self.new.book }
+    {
+        self.book.lend_work()
+    }
+
+    /// Takes a set back.
+    pub(crate) fn take_back(&mut self, inquiry: Inquiry)
+        ensures book { IsTakingBack self.old.book inquiry self.new.book }
+    {
+        self.book.take_back(inquiry);
     }
 
     /// Takes at most `n` tasks, and counts them.

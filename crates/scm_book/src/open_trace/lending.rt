@@ -1,13 +1,13 @@
 //! Questions about an open trace that are searched beside it.
-ghost use Rattle.std.specs.Prelude.{◌≡◌, IfSome, IsTrue, MatchOption, Ok};
+ghost use Rattle.std.specs.Prelude.{◌≡◌, IfSome, IsTrue, MatchOption, None, Ok};
 ghost use Rattle.scm_sequences.specs.Lengths.{IsWithin};
 ghost use Rattle.scm_sequences.specs.Sequences.{lengths_of};
 ghost use Rattle.scm_cells.specs.CellLists.{initials_of};
 ghost use Rattle.scm_book.specs.Sets.{asked_lengths};
 ghost use Rattle.scm_book.specs.Inquiries.{Lends, TakesBack};
 
-use super::OpenTrace;
 use super::asking::lengths_at;
+use super::{OpenTrace, Purpose};
 use crate::copying::{copy_of_lengths, copy_of_sequences};
 use crate::inquiry::Inquiry;
 use crate::proposing::Proposing;
@@ -19,15 +19,21 @@ use std::mem;
 
 impl OpenTrace {
     /// The question about the present trace, or as it stood at a mark, to be searched elsewhere, with the set that is kept
-    /// for the trace; the start alone stays here. `None`, with everything as it was, where the mark isn't there, the answer
-    /// is likely to be near, or memory is refused.
-    pub(crate) fn lend(&mut self, alloc: Global, name: Name, mark: Option<u64>) -> Option<Inquiry>
+    /// for the trace; the start alone stays here. `None`, with everything as it was, where the mark isn't there, the purpose
+    /// doesn't want it, or memory is refused.
+    pub(crate) fn lend(
+        &mut self,
+        alloc: Global,
+        name: Name,
+        mark: Option<u64>,
+        purpose: Purpose,
+    ) -> Option<Inquiry>
         ensures state { self.new.state ≡ self.old.state }
         ensures lends { MatchOption result (self.new.set ≡ self.old.set) (λ inquiry. Lends name mark self.old.state self.old.set inquiry self.new.set) }
     {
         let _most = self.most_steps();
         let lengths = self.lengths_of_question(alloc, mark)?;
-        if !self.is_long(alloc, &lengths) {
+        if !self.is_wanted(alloc, &lengths, purpose) {
             return None;
         }
         let earlier = self.earlier.copy()?;
@@ -37,6 +43,7 @@ impl OpenTrace {
         let Ok(start) = Reach::new(alloc, &self.cells, &self.sequences) else {
             return None;
         };
+        self.attention.lend(purpose);
         Some(Inquiry {
             alloc,
             name,
@@ -45,6 +52,8 @@ impl OpenTrace {
             limit: self.budget.limit(),
             reach: mem::replace(&mut self.reach, start),
             earlier,
+            purpose,
+            is_unfinished: true,
         })
     }
 
@@ -59,8 +68,8 @@ impl OpenTrace {
         }
     }
 
-    /// Whether a question about the trace cut to these lengths is likely to take long.
-    fn is_long(&self, alloc: Global, lengths: &Lengths) -> bool
+    /// Whether the purpose wants the set, for the trace cut to these lengths.
+    fn is_wanted(&self, alloc: Global, lengths: &Lengths, purpose: Purpose) -> bool
         requires { IsWithin lengths.now (lengths_of self.now.state.sequences) }
     {
         let proposing = Proposing {
@@ -70,7 +79,51 @@ impl OpenTrace {
             limit: self.budget.limit(),
             earlier: &self.earlier,
         };
-        proposing.is_long(&self.reach)
+        match purpose {
+            Purpose::Answer => proposing.is_long(&self.reach),
+            Purpose::Work => proposing.wants_work(&self.reach),
+        }
+    }
+
+    /// Whether its set is to be lent for work, as far as can be told with no look at it.
+    pub(crate) fn may_want_work(&self) -> bool {
+        self.attention.may_want_work() && self.budget.room(self.reach.held())
+    }
+
+    /// The set, to be searched elsewhere for what questions will want. `None`, with everything as it was, where it is settled,
+    /// a schedule is known or memory is refused. It isn't asked for again until it grows.
+    pub(crate) fn lend_work(&mut self, alloc: Global, name: Name) -> Option<Inquiry>
+        ensures state { self.new.state ≡ self.old.state }
+        ensures lends { MatchOption result (self.new.set ≡ self.old.set) (λ inquiry. Lends name None self.old.state self.old.set inquiry self.new.set) }
+    {
+        self.attention.look();
+        self.lend(alloc, name, None, Purpose::Work)
+    }
+
+    /// Whether a question has to wait until the set is back: it is lent for work, and no schedule is known.
+    pub(crate) fn awaits_set(&self, alloc: Global, mark: Option<u64>) -> bool {
+        self.attention.is_at_work() && matches!(self.has_schedule(alloc, mark), Some(false))
+    }
+
+    /// Whether a schedule is known of what a question is about, where that is there.
+    fn has_schedule(&self, alloc: Global, mark: Option<u64>) -> Option<bool> {
+        let _held = self.reach.held();
+        let lengths = self.lengths_of_question(alloc, mark)?;
+        Some(self.is_explained(alloc, &lengths))
+    }
+
+    /// Whether a schedule of the trace cut to these lengths is known.
+    fn is_explained(&self, alloc: Global, lengths: &Lengths) -> bool
+        requires { IsWithin lengths.now (lengths_of self.now.state.sequences) }
+    {
+        let proposing = Proposing {
+            alloc,
+            sequences: &self.sequences,
+            lengths,
+            limit: self.budget.limit(),
+            earlier: &self.earlier,
+        };
+        proposing.is_explained(&self.reach)
     }
 
     /// Takes a question back that may have been lent of another trace: its set stands in the place of the present one where
@@ -87,7 +140,10 @@ impl OpenTrace {
             limit,
             mut reach,
             earlier,
+            purpose,
+            is_unfinished,
         } = inquiry;
+        self.attention.take_back(purpose, is_unfinished);
         let same_procs = sequences.procs() == self.sequences.procs();
         if !same_procs || !has_initials(&self.cells, reach.initials()) {
             return;

@@ -1,10 +1,11 @@
 //! Questions that are searched beside the traces.
-ghost use Rattle.std.specs.Prelude.{◌≡◌, MatchOption};
+ghost use Rattle.std.specs.Prelude.{◌≡◌, None, MatchOption};
 ghost use Rattle.scm_book.specs.Sets.{machine_in, sets_in};
 ghost use Rattle.scm_book.specs.Inquiries.{IsLentOf, IsTakenBack};
 
 use super::Traces;
 use crate::inquiry::Inquiry;
+use crate::open_trace::Purpose;
 use scm_cells::Name;
 
 impl Traces {
@@ -15,7 +16,46 @@ impl Traces {
         ensures lends { MatchOption result (sets_in self.new ≡ sets_in self.old) (λ inquiry. IsLentOf (machine_in self.old) (sets_in self.old) name.now mark inquiry (sets_in self.new)) }
     {
         let trace = self.traces.get_mut(name)?;
-        trace.lend(self.alloc, *name, mark)
+        trace.lend(self.alloc, *name, mark, Purpose::Answer)
+    }
+
+    /// The first trace whose set may be wanted for work.
+    fn wanting(&self) -> Option<Name> {
+        for place in 0..self.traces.len() {
+            let (name, _) = self.traces.get_index(place).unwrap();
+            if self
+                .traces
+                .get(name)
+                .is_some_and(|trace| trace.may_want_work())
+            {
+                return Some(*name);
+            }
+        }
+        None
+    }
+
+    /// Whether there is one.
+    pub(crate) fn may_want_work(&self) -> bool {
+        self.wanting().is_some()
+    }
+
+    /// The set of a trace, lent for work. `None`, with everything as it was, where none wants any, or the first one that might
+    /// turns out not to.
+    pub(crate) fn lend_work(&mut self) -> Option<Inquiry>
+        ensures machine { machine_in self.new ≡ machine_in self.old }
+        ensures lends { MatchOption result (sets_in self.new ≡ sets_in self.old) (λ inquiry. IsLentOf (machine_in self.old) (sets_in self.old) inquiry.name None inquiry (sets_in self.new)) }
+    {
+        let name = self.wanting()?;
+        let trace = self.traces.get_mut(&name)?;
+        trace.lend_work(self.alloc, name)
+    }
+
+    /// Whether a question about the trace of this name has to wait until its set is back.
+    pub(crate) fn awaits_set(&self, name: &Name, mark: Option<u64>) -> bool {
+        match self.traces.get(name) {
+            Some(trace) => trace.awaits_set(self.alloc, mark),
+            None => false,
+        }
     }
 
     /// Takes a question back, whatever happened since.

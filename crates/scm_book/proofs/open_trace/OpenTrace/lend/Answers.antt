@@ -11,8 +11,8 @@ use Rattle.scm_book.proofs.AskedLengths.{IsWithin-asked}
 use Rattle.scm_book.proofs.LendingLaws.{can_search, IsKeptFor-start}
 use Rattle.scm_book.proofs.open_trace.OpenTrace.lend.Goals as goal
 
-pub is_long-requires : goal.is_long-requires
-is_long-requires c =
+pub is_wanted-requires : goal.is_wanted-requires
+is_wanted-requires c =
     IsWithin-asked c.args.self.now.state c.args.mark c.in_ok-lengths.lengths (subst (λ (k : KeptTrace). IsSoundTrace k.state) c.self.view_is c.self.invariant.0) c.in_ok-lengths.ensures
 
 pub invariant_of-result : goal.invariant_of-result
