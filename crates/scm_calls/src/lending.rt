@@ -9,12 +9,12 @@ use std::process::Abort;
 
 const BUDGET: u64 = 5_000;
 /// So many stores each of three writers makes, in a cell of its own.
-const STORES: u64 = 9;
+pub(crate) const STORES: u64 = 9;
 /// What a question about them finds: each number of stores of each writer.
-const SITUATIONS: usize = 1_000;
+pub(crate) const SITUATIONS: usize = 1_000;
 
 /// Opens t: each of three processes stores in its own cell, and the fourth loads from the first one what nobody stored.
-fn open_forbidden(rt: &impl Abort, book: &mut Book) {
+pub(crate) fn open_forbidden(rt: &impl Abort, book: &mut Book) {
     open_with(rt, book, BUDGET, cell(rt, b"x"));
 }
 
@@ -28,7 +28,7 @@ fn open_with(rt: &impl Abort, book: &mut Book, budget: u64, first: Decl) {
     }
 }
 
-fn report_stores(rt: &impl Abort, book: &mut Book, from: u64) {
+pub(crate) fn report_stores(rt: &impl Abort, book: &mut Book, from: u64) {
     let t = name(rt, b"t");
     for value in from..=STORES {
         assert!(rt; is_done(book.report(ANNA, t, 0, &store(rt, b"x", value))));
@@ -37,12 +37,12 @@ fn report_stores(rt: &impl Abort, book: &mut Book, from: u64) {
     }
 }
 
-fn report_forbidden(rt: &impl Abort, book: &mut Book) {
+pub(crate) fn report_forbidden(rt: &impl Abort, book: &mut Book) {
     let t = name(rt, b"t");
     assert!(rt; is_done(book.report(ANNA, t, 3, &load(rt, b"x", STORES + 1))));
 }
 
-fn forbidden(rt: &impl Abort, alloc: Global) -> Book {
+pub(crate) fn forbidden(rt: &impl Abort, alloc: Global) -> Book {
     let mut book = Book::new(alloc);
     open_forbidden(rt, &mut book);
     report_stores(rt, &mut book, 1);
@@ -64,7 +64,7 @@ fn searched(rt: &impl Abort, book: &mut Book) -> Inquiry {
     inquiry
 }
 
-fn held(rt: &impl Abort, book: &Book) -> usize {
+pub(crate) fn held(rt: &impl Abort, book: &Book) -> usize {
     book.held(&name(rt, b"t")).expect(rt, "t")
 }
 
@@ -79,13 +79,13 @@ fn answer(rt: &impl Abort, book: &mut Book) -> (Reply, u64) {
     (reply, steps.made())
 }
 
-fn is_consistent(rt: &impl Abort, book: &mut Book) -> bool {
+pub(crate) fn is_consistent(rt: &impl Abort, book: &mut Book) -> bool {
     let (reply, _) = answer(rt, book);
     matches!(reply, Reply::Consistent { .. })
 }
 
 /// The question under the book, and whether it is inconsistent; gives its steps.
-fn steps_of_refuted(rt: &impl Abort, book: &mut Book) -> u64 {
+pub(crate) fn steps_of_refuted(rt: &impl Abort, book: &mut Book) -> u64 {
     let (reply, steps) = answer(rt, book);
     assert!(rt; matches!(reply, Reply::Inconsistent));
     steps

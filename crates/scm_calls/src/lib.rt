@@ -81,4 +81,6 @@ mod traces;
 #[cfg(test)]
 mod words;
 #[cfg(test)]
+mod work;
+#[cfg(test)]
 mod workers;

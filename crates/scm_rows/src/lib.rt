@@ -60,6 +60,8 @@ mod scripts;
 #[cfg(test)]
 mod serial;
 #[cfg(test)]
+mod shared_searchers;
+#[cfg(test)]
 mod storm;
 #[cfg(test)]
 mod storm_lines;

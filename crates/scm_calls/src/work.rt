@@ -1,0 +1,107 @@
+//! Sets that are lent for work, and what is taken back of it.
+
+use crate::lending::{
+    SITUATIONS, STORES, forbidden, held, is_consistent, open_forbidden, report_forbidden,
+    report_stores, steps_of_refuted,
+};
+use crate::words::{ANNA, is_done, name, store};
+use scm_book::{Book, Call, Inquiry};
+use std::process::Abort;
+
+/// So many situations are looked for at a time.
+const AT_ONCE: usize = 300;
+
+fn lent(rt: &impl Abort, book: &mut Book) -> Inquiry {
+    book.lend_work().expect(rt, "a set")
+}
+
+fn awaits(rt: &impl Abort, book: &Book) -> bool {
+    book.awaits_set(&Call::Ask {
+        name: name(rt, b"t"),
+        mark: None,
+    })
+}
+
+/// How often a set is lent for work.
+fn look_at_all(book: &mut Book) -> usize {
+    let mut lent = 0;
+    for _ in 0..10 {
+        if book.lend_work().is_some() {
+            lent += 1;
+        }
+    }
+    lent
+}
+
+#[test]
+fn work_spares_the_question(rt: HostRuntime) {
+    let mut book = forbidden(&rt, rt.alloc());
+    let mut inquiry = lent(&rt, &mut book);
+    let mut times = 1;
+    for _ in 0..10 {
+        if inquiry.work(AT_ONCE) {
+            times += 1;
+        }
+    }
+    assert!(rt; times == 4);
+    assert!(rt; held(&rt, &book) == 1);
+    book.take_back(inquiry);
+    assert!(rt; held(&rt, &book) == SITUATIONS);
+    assert!(rt; steps_of_refuted(&rt, &mut book) == 0);
+    assert!(rt; look_at_all(&mut book) == 0 && !book.may_want_work());
+}
+
+#[test]
+fn work_that_is_given_back_is_gone_on_with(rt: HostRuntime) {
+    let mut book = forbidden(&rt, rt.alloc());
+    let mut inquiry = lent(&rt, &mut book);
+    assert!(rt; inquiry.work(AT_ONCE));
+    book.take_back(inquiry);
+    assert!(rt; held(&rt, &book) == AT_ONCE + 1 && book.may_want_work());
+    let mut again = lent(&rt, &mut book);
+    assert!(rt; again.work(AT_ONCE));
+    book.take_back(again);
+    assert!(rt; held(&rt, &book) == 2 * AT_ONCE + 1);
+}
+
+#[test]
+fn a_set_is_lent_once(rt: HostRuntime) {
+    let mut book = forbidden(&rt, rt.alloc());
+    assert!(rt; book.may_want_work() && !awaits(&rt, &book));
+    let inquiry = lent(&rt, &mut book);
+    assert!(rt; book.lend_work().is_none() && !book.may_want_work());
+    let t = name(&rt, b"t");
+    assert!(rt; is_done(book.report(ANNA, t, 0, &store(&rt, b"x", STORES))));
+    assert!(rt; book.lend_work().is_none() && !book.may_want_work() && awaits(&rt, &book));
+    book.take_back(inquiry);
+    assert!(rt; book.may_want_work() && !awaits(&rt, &book));
+}
+
+#[test]
+fn what_is_explained_wants_no_work(rt: HostRuntime) {
+    let mut book = Book::new(rt.alloc());
+    open_forbidden(&rt, &mut book);
+    report_stores(&rt, &mut book, 1);
+    assert!(rt; look_at_all(&mut book) == 0);
+    report_forbidden(&rt, &mut book);
+    assert!(rt; book.may_want_work());
+    let _inquiry = lent(&rt, &mut book);
+    assert!(rt; awaits(&rt, &book));
+}
+
+#[test]
+fn a_question_that_is_explained_awaits_nothing(rt: HostRuntime) {
+    let mut book = Book::new(rt.alloc());
+    let t = name(&rt, b"t");
+    open_forbidden(&rt, &mut book);
+    report_stores(&rt, &mut book, 1);
+    assert!(rt; is_consistent(&rt, &mut book));
+    let _mark = book.mark(ANNA, t);
+    report_forbidden(&rt, &mut book);
+    let _inquiry = lent(&rt, &mut book);
+    let at_mark = Call::Ask {
+        name: t,
+        mark: Some(0),
+    };
+    assert!(rt; awaits(&rt, &book) && !book.awaits_set(&at_mark));
+}

@@ -1,0 +1,240 @@
+//! That workers search the sets of a shared book while its callers rest, and that nobody waits for one who is at work.
+ghost use Rattle.std.specs.Prelude.{◌≡◌};
+
+use scm_book::{Book, Reply};
+use scm_cells::Name;
+use scm_expand::{FreeGate, Gate, TaskSource};
+use scm_sessions::read_line;
+use scm_shared::{BookNaming, BookToken, Pass, SharedBook, run_searchers};
+use std::alloc::Global;
+use std::marker::Brand;
+use std::process::Abort;
+use std::sync::Wait;
+use std::sync::atomic::{AtomicBool, AtomicU64, Ordering};
+use std::test::Fail;
+use std::thread;
+use std::thread::Threads;
+use std::time::Duration;
+
+const WORKERS: usize = 2;
+
+/// So often a thread yields to others at most.
+const MOST_TURNS: u64 = 100_000_000;
+
+/// For so many milliseconds workers have time.
+const MOST_MILLIS: u64 = 60_000;
+
+/// Store buffering in t, which no schedule explains, and a trace u that an empty one does.
+const BUFFERING: &str =
+    "a open u 1 100 x:w=0\na open t 2 100 x:w=0 y:w=0\na claim t 0\na claim t 1\n\
+    a do t 0 sw x 1\na do t 0 lw y 0\na do t 1 sw y 1\na do t 1 lw x 0\n";
+
+/// A load in t of what nobody stores.
+const FORBIDDEN: &str =
+    "a open t 3 5000 x:w=0 y:w=0\na claim t 0\na claim t 1\na claim t 2\na do t 2 lw x 2\n";
+
+const STORES: &str = "a do t 0 sw x 1\na do t 1 sw y 1\n";
+
+/// So often both stores are reported. So there are more situations than a worker looks for at once.
+const TIMES: usize = 50;
+
+/// The verdict on the call that this line is.
+fn verdict<B: BookNaming, R: Wait + Abort>(
+    rt: &R,
+    alloc: Global,
+    shared: &SharedBook<B>,
+    pass: &mut Pass<B>,
+    line: &str,
+) -> &'static str {
+    let (_, call) = read_line(alloc, line.as_bytes()).expect(rt, "a call");
+    match shared.call(rt, pass, call) {
+        Reply::Done => "ok",
+        Reply::Consistent { .. } => "consistent",
+        Reply::Inconsistent => "inconsistent",
+        _ => "another",
+    }
+}
+
+/// Calls that are all answered `Done`.
+fn report<B: BookNaming, R: Wait + Abort>(
+    rt: &R,
+    alloc: Global,
+    shared: &SharedBook<B>,
+    pass: &mut Pass<B>,
+    lines: &str,
+) {
+    for line in lines.lines() {
+        assert!(rt; verdict(rt, alloc, shared, pass, line) == "ok");
+    }
+}
+
+/// A new pass that made these calls.
+fn entered<B: BookNaming, R: Wait + Abort>(
+    rt: &R,
+    alloc: Global,
+    shared: &SharedBook<B>,
+    lines: &str,
+) -> Pass<B> {
+    let mut pass = shared.enter(rt).ok().expect(rt, "a pass");
+    report(rt, alloc, shared, &mut pass, lines);
+    pass
+}
+
+/// The book, where the audit of its only pass agrees.
+fn audited<B: BookNaming>(
+    rt: &impl Abort,
+    alloc: Global,
+    shared: SharedBook<B>,
+    pass: Pass<B>,
+) -> Book {
+    let passes = vec![in alloc; pass].expect(rt, "memory");
+    let audit = shared.audit(passes, Vec::new(alloc));
+    assert!(rt; audit.agreed && audit.totals_agreed);
+    audit.book
+}
+
+/// How many situations are held for t.
+fn held(rt: &impl Abort, book: &Book) -> usize {
+    let name = Name::read(b"t").expect(rt, "a name");
+    book.held(&name).expect(rt, "t")
+}
+
+/// Holds workers, who have a set lent, until it is opened.
+#[derive(Drop)]
+struct Barrier {
+    came: AtomicBool,
+    open: AtomicBool,
+    left: AtomicBool,
+}
+
+impl Gate for Barrier {
+    fn before_expand(&self, _worker: usize) {
+        self.came.store(true, Ordering::SeqCst);
+        let _ = is_set(&self.open);
+        self.left.store(true, Ordering::SeqCst);
+    }
+}
+
+/// Whether it is set in the end.
+fn is_set(flag: &AtomicBool) -> bool {
+    for _ in 0..MOST_TURNS {
+        if flag.load(Ordering::SeqCst) {
+            return true;
+        }
+        thread::yield_now();
+    }
+    false
+}
+
+/// The verdicts on a report to t and a question about u, while a worker who has the set of t is held, and on the question about
+/// t once it isn't.
+fn call_meanwhile<B: BookNaming, R: Wait + Abort>(
+    rt: &R,
+    alloc: Global,
+    shared: &SharedBook<B>,
+    pass: &mut Pass<B>,
+    barrier: &Barrier,
+) -> [&'static str; 3] {
+    assert!(rt; is_set(&barrier.came));
+    let reported = verdict(rt, alloc, shared, pass, "a do t 0 sw x 2");
+    let other = verdict(rt, alloc, shared, pass, "a ask u");
+    assert!(rt; !barrier.left.load(Ordering::SeqCst));
+    barrier.open.store(true, Ordering::SeqCst);
+    [reported, other, verdict(rt, alloc, shared, pass, "a ask t")]
+}
+
+fn hold<B: BookNaming + Send + Sync, R: Threads + Wait + Abort + Sync>(
+    rt: &R,
+    alloc: Global,
+    token: BookToken,
+) -> Book
+    requires table { token.table.shared.table_id ≡ B.table }
+    requires made { (token.made.name ≡ B.made) × (token.made.parts ≡ B.seats) }
+    requires totals { (token.totals.taken.name ≡ B.taken) × (token.totals.delivered.name ≡ B.delivered) × (token.totals.taken.parts ≡ B.parts) }
+{
+    let barrier = Barrier {
+        came: AtomicBool::new(false),
+        open: AtomicBool::new(false),
+        left: AtomicBool::new(false),
+    };
+    let shared = SharedBook::<B>::new(alloc, token);
+    let mut pass = entered(rt, alloc, &shared, BUFFERING);
+    let (verdicts, _) = thread::join(
+        rt,
+        || {
+            let verdicts = call_meanwhile(rt, alloc, &shared, &mut pass, &barrier);
+            shared.stop_workers();
+            verdicts
+        },
+        || run_searchers::<B, Barrier, R>(rt, alloc, &shared, &barrier, WORKERS),
+    );
+    assert!(rt; verdicts == ["ok", "consistent", "inconsistent"]);
+    audited(rt, alloc, shared, pass)
+}
+
+#[test]
+fn calls_while_a_set_is_lent(rt: HostRuntime) -> Result<(), Fail> {
+    let book = hold::<Brand, _>(&rt, rt.alloc(), BookToken::new(rt.alloc())?);
+    assert!(rt; held(&rt, &book) == 10);
+    Ok(())
+}
+
+/// Whether workers find all there is in the end. That is no call, so the callers rest.
+fn is_worked_off<B: BookNaming, R: Wait>(rt: &R, shared: &SharedBook<B>) -> bool {
+    let never = AtomicU64::new(0);
+    for _ in 0..MOST_MILLIS {
+        if !shared.has_new(rt) {
+            return true;
+        }
+        never.park_timeout(rt, 0, Duration::from_millis(1));
+    }
+    false
+}
+
+/// Reports the stores and rests; reports them once more, when workers have nothing to do, and rests. Then the verdict on t.
+fn rest_and_ask<B: BookNaming, R: Wait + Abort>(
+    rt: &R,
+    alloc: Global,
+    shared: &SharedBook<B>,
+    pass: &mut Pass<B>,
+) -> &'static str {
+    for times in [TIMES, 1] {
+        for _ in 0..times {
+            report(rt, alloc, shared, pass, STORES);
+        }
+        assert!(rt; is_worked_off(rt, shared));
+    }
+    verdict(rt, alloc, shared, pass, "a ask t")
+}
+
+fn rest<B: BookNaming + Send + Sync, R: Threads + Wait + Abort + Sync>(
+    rt: &R,
+    alloc: Global,
+    token: BookToken,
+) -> Book
+    requires table { token.table.shared.table_id ≡ B.table }
+    requires made { (token.made.name ≡ B.made) × (token.made.parts ≡ B.seats) }
+    requires totals { (token.totals.taken.name ≡ B.taken) × (token.totals.delivered.name ≡ B.delivered) × (token.totals.taken.parts ≡ B.parts) }
+{
+    let shared = SharedBook::<B>::new(alloc, token);
+    let mut pass = entered(rt, alloc, &shared, FORBIDDEN);
+    let (verdict, _) = thread::join(
+        rt,
+        || {
+            let verdict = rest_and_ask(rt, alloc, &shared, &mut pass);
+            shared.stop_workers();
+            verdict
+        },
+        || run_searchers::<B, FreeGate, R>(rt, alloc, &shared, &FreeGate, WORKERS),
+    );
+    assert!(rt; verdict == "inconsistent");
+    audited(rt, alloc, shared, pass)
+}
+
+#[test]
+fn a_rest_spares_the_question(rt: HostRuntime) -> Result<(), Fail> {
+    let book = rest::<Brand, _>(&rt, rt.alloc(), BookToken::new(rt.alloc())?);
+    assert!(rt; book.steps() == 0);
+    assert!(rt; held(&rt, &book) == (TIMES + 2) * (TIMES + 2));
+    Ok(())
+}
