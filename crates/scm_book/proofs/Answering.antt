@@ -1,5 +1,5 @@
 -- What each way out of a call is in the machine's steps.
-use Rattle.std.proofs.Common.{◌≡◌, ◌⊎◌, ℕ, ◌<◌, ◌≤◌, List, true, false, Option, None, Some, Result, Ok, Err, IsSomeAnd, IsOkAnd, is_some, nat_le, length, refl, sym, ap, ap₂, ◌∙◌, subst, inl, inr}
+use Rattle.std.proofs.Common.{◌≡◌, ◌⊎◌, ℕ, ◌<◌, ◌≤◌, Bool, List, true, false, Option, None, Some, Result, Ok, Err, IsSomeAnd, IsOkAnd, is_some, nat_le, length, refl, sym, ap, ap₂, ◌∙◌, subst, inl, inr}
 use Rattle.std.proofs.lemmas.Bool.{le-leb, lt-leb}
 use Rattle.std.specs.Option.{option_or, option_map_or}
 use Rattle.scm_sequences.specs.declared.refusal.Refusal.{Refusal}
@@ -93,3 +93,9 @@ module _ (machine : Machine) (name : List ℕ) where
   pub place-free : is_some (trace_named machine name) ≡ false → length machine.traces < MOST_TRACES → place_cause machine name ≡ None
   place-free absent room =
       ap₂ (λ a b. option_or (cause a NameTaken) (cause b TooManyTraces)) absent (lt-leb MOST_TRACES (length machine.traces) room)
+
+  pub free-absent : place_cause machine name ≡ None → is_some (trace_named machine name) ≡ false
+  free-absent = go (is_some (trace_named machine name)) where
+    go : (there : Bool) → option_or (cause there NameTaken) (cause (nat_le MOST_TRACES (length machine.traces)) TooManyTraces) ≡ None → there ≡ false
+    go true is = let no : Some NameTaken ≡ None = is in cc
+    go false is = refl

@@ -1,9 +1,11 @@
 //! The open traces: the machine that a book stands for.
-ghost use Rattle.std.specs.Prelude.{◌≡◌, ◌↔◌, [], IfOk, IsTrue};
+ghost use Rattle.std.specs.Prelude.{◌≡◌, ◌↔◌, [], IfOk, IfErr, IsTrue};
 ghost use Rattle.std.specs.Map.{remove_entry};
+ghost use Rattle.indexmap.specs.IndexMap.{insert_entry};
 ghost use Rattle.scm_cells.specs.Names.{name_eq};
 ghost use Rattle.scm_book.specs.Calls.{call_data, reply_data, opens, claims, releases, reports, sets_mark, goes_back, raises, asks, asks_why, asks_cycle, shows, lists, closes};
 ghost use Rattle.scm_book.specs.Machine.{trace_names};
+ghost use Rattle.scm_book.specs.Refusals.{place_cause};
 ghost use Rattle.scm_book.specs.Sets.{machine_in, sets_in, HasRoom, HasRoomFor, HoldsFor, IfDone, HasNewSet, CutsSet, SearchesSet, LeavesSets};
 ghost use Rattle.scm_book.specs.Steps.{IsStepOrNoMemory};
 
@@ -58,16 +60,38 @@ impl Traces {
             Ok(trace) => trace,
             Err(refusal) => return Reply::Refused(refusal),
         };
-        if self.traces.contains_key(&name) {
-            return Reply::Refused(Refusal::NameTaken);
+        if let Some(refusal) = self.place_refusal(&name) {
+            drop(trace);
+            return Reply::Refused(refusal);
+        }
+        match self.put(name, trace) {
+            Ok(()) => Reply::Done,
+            Err(NoMemory) => Reply::Refused(Refusal::NoMemory),
+        }
+    }
+
+    /// Why there is no place for a trace of this name, where there is none.
+    fn place_refusal(&self, name: &Name) -> Option<Refusal>
+        ensures { result ≡ place_cause (machine_in self.now) name.now }
+    {
+        if self.traces.contains_key(name) {
+            return Some(Refusal::NameTaken);
         }
         if self.traces.len() >= MOST_TRACES {
-            return Reply::Refused(Refusal::TooManyTraces);
+            return Some(Refusal::TooManyTraces);
         }
-        match self.traces.insert(name, trace) {
-            Ok(_) => Reply::Done,
-            Err(_) => Reply::Refused(Refusal::NoMemory),
-        }
+        None
+    }
+
+    /// Puts the trace under this name.
+    fn put(&mut self, name: Name, trace: OpenTrace) -> Result<(), NoMemory>
+        ensures put { IfOk result (λ _. self.new ≡ insert_entry name_eq self.old name trace) }
+        ensures kept { IfErr result (λ _. self.new ≡ self.old) }
+    {
+        let put = self.traces.insert(name, trace);
+        let answer = if put.is_ok() { Ok(()) } else { Err(NoMemory) };
+        drop(put);
+        answer
     }
 
     fn claim(&mut self, session: u16, name: Name, process: u64) -> Reply
