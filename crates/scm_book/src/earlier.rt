@@ -16,7 +16,14 @@ pub(crate) struct Earlier {
     /// At how many operations no schedule was found. Nothing changed since, for any lengths with as many operations: the
     /// lengths that a trace can be asked about lie within one another.
     failed: Option<u64>,
+    /// At how many operations no schedule was found where all of the budget might have been spent on one, at last.
+    failed_whole: Option<u64>,
+    /// How often the trace was cut.
+    cuts: u64,
 }
+
+/// All of the budget may be spent once more on a proposal where the set is full when the trace has grown by this part of itself.
+const PART: u64 = 64;
 
 impl Earlier {
     /// No schedule and no operation yet.
@@ -25,6 +32,8 @@ impl Earlier {
             schedule: Vec::new(alloc),
             reported: Some(Vec::new(alloc)),
             failed: None,
+            failed_whole: None,
+            cuts: 0,
         }
     }
 
@@ -39,6 +48,8 @@ impl Earlier {
             schedule: Vec::from_slice(alloc, &self.schedule).ok()?,
             reported,
             failed: self.failed,
+            failed_whole: self.failed_whole,
+            cuts: self.cuts,
         })
     }
 
@@ -89,7 +100,19 @@ impl Earlier {
 
     /// No schedule was found at these lengths.
     pub(crate) fn fail(&mut self, lengths: &Lengths) {
-        self.failed = Some(operations_in(lengths));
+        let operations = operations_in(lengths);
+        if self.may_try_whole(lengths) {
+            self.failed_whole = Some(operations);
+        }
+        self.failed = Some(operations);
+    }
+
+    /// Whether all of the budget may be spent on a proposal though the set is full.
+    pub(crate) fn may_try_whole(&self, lengths: &Lengths) -> bool {
+        match self.failed_whole {
+            Some(before) => operations_in(lengths) > before.saturating_add(before / PART),
+            None => true,
+        }
     }
 
     /// Keeps a copy of a schedule that isn't shorter, where there is memory for it.
@@ -99,7 +122,7 @@ impl Earlier {
         }
         if let Ok(copy) = Vec::from_slice(*self.schedule.allocator(), schedule) {
             self.schedule = copy;
-            self.failed = None;
+            self.retry();
         }
     }
 
@@ -113,7 +136,9 @@ impl Earlier {
         if let Some(reported) = &mut self.reported {
             reported.truncate(operations);
         }
+        self.cuts = self.cuts.saturating_add(1);
         self.failed = None;
+        self.failed_whole = None;
     }
 
     /// Takes the schedule of another one, which began as a copy of this one, where it isn't shorter, as far as the trace has
@@ -123,19 +148,23 @@ impl Earlier {
             mut schedule,
             reported: _,
             failed,
+            failed_whole,
+            cuts,
         } = other;
         schedule.truncate(operations_in(present) as usize);
         if schedule.len() >= self.schedule.len() {
             self.schedule = schedule;
         }
-        if is_same {
+        if is_same && cuts == self.cuts {
             self.failed = failed;
+            self.failed_whole = failed_whole;
         }
     }
 
     /// A proposal may find more than before.
     pub(crate) fn retry(&mut self) {
         self.failed = None;
+        self.failed_whole = None;
     }
 }
 

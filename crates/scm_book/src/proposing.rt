@@ -9,6 +9,7 @@ ghost use Rattle.scm_sequences.specs.Fronts.{IsSchedule};
 ghost use Rattle.scm_book.specs.Inquiries.{CanJudge};
 
 use crate::earlier::Earlier;
+use crate::open_trace::Purpose;
 use scm_proposals::{is_near_end, propose};
 use scm_reach::Reach;
 use scm_schedules::is_legal;
@@ -27,6 +28,8 @@ pub(crate) struct Proposing<'a> {
     /// How many situations may be kept.
     pub(crate) limit: usize,
     pub(crate) earlier: &'a Earlier,
+    /// For what they are proposed.
+    pub(crate) purpose: Purpose,
 }
 
 impl Proposing<'_> {
@@ -65,14 +68,10 @@ impl Proposing<'_> {
         Vec::from_slice(self.alloc, self.earlier.reported(self.lengths)?).ok()
     }
 
-    /// What the heuristic proposes, before a search of what the limit leaves beside this set, or in place of one where the set
-    /// is full.
+    /// What the heuristic proposes.
     fn proposed(&self, reach: &Reach) -> Option<Vec<u8>> {
         let earlier = self.earlier.schedule();
-        let room = match self.limit.saturating_sub(reach.held()) {
-            0 => self.limit,
-            room => room,
-        };
+        let room = self.room(reach);
         propose(
             self.alloc,
             reach.initials(),
@@ -82,6 +81,18 @@ impl Proposing<'_> {
             self.limit,
             room,
         )
+    }
+
+    /// The room of the search that a proposal may spare: what the limit leaves beside this set, or all of it, for work, and
+    /// where the set is full, if that wasn't tried of late.
+    fn room(&self, reach: &Reach) -> usize {
+        let room = self.limit.saturating_sub(reach.held());
+        let is_due = room == 0 && self.earlier.may_try_whole(self.lengths);
+        if is_due || matches!(self.purpose, Purpose::Work) {
+            self.limit
+        } else {
+            room
+        }
     }
 
     /// This proposal, where it is legal.
@@ -114,13 +125,13 @@ impl Proposing<'_> {
         requires { CanJudge self.now.sequences.now self.now.lengths.now reach.now.initials }
         ensures { IfSome result (λ schedule. IsSchedule (cut_to (trace_of reach.now.initials self.now.sequences.now) self.now.lengths.now) (reverse schedule.items)) }
     {
-        if self.earlier.has_failed(self.lengths) {
-            return None;
-        }
         if let Some(schedule) = self.known(reach) {
             return Some(schedule);
         }
-        if self.is_settled(reach) || self.is_search_short(reach)? {
+        if self.earlier.has_failed(self.lengths) || self.is_settled(reach) {
+            return None;
+        }
+        if self.is_search_short(reach)? {
             return None;
         }
         self.judged(reach, self.proposed(reach))
@@ -137,8 +148,7 @@ impl Proposing<'_> {
         if self.is_search_short(reach).unwrap_or(true) {
             return false;
         }
-        let is_known = !self.earlier.has_failed(self.lengths) && self.known(reach).is_some();
-        !is_known && !self.is_settled(reach)
+        !self.is_explained(reach) && !self.is_settled(reach)
     }
 
     /// Whether a schedule is known.

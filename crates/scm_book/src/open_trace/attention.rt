@@ -72,11 +72,12 @@ impl Attention {
         self.is_unfinished |= is_unfinished;
     }
 
-    /// Whether it may be lent for work: it is here, and something was left or the trace grew since it was looked at.
+    /// Whether it may be lent for work: it is here, and the trace grew since it was looked at, or nothing changed and something
+    /// was left.
     pub(crate) fn may_want_work(&self) -> bool {
         let is_here = self.questions == 0 && !self.is_at_work;
         let has_grown = self.since > 0 && self.since.saturating_mul(PART) >= self.before;
-        is_here && (self.is_unfinished || has_grown)
+        is_here && (has_grown || self.is_unfinished && self.since == 0)
     }
 
     /// Whether it is lent for work.

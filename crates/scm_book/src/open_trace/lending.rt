@@ -78,6 +78,7 @@ impl OpenTrace {
             lengths,
             limit: self.budget.limit(),
             earlier: &self.earlier,
+            purpose,
         };
         match purpose {
             Purpose::Answer => proposing.is_long(&self.reach),
@@ -122,6 +123,7 @@ impl OpenTrace {
             lengths,
             limit: self.budget.limit(),
             earlier: &self.earlier,
+            purpose: Purpose::Answer,
         };
         proposing.is_explained(&self.reach)
     }
