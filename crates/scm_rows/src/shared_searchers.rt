@@ -126,21 +126,20 @@ fn is_set(flag: &AtomicBool) -> bool {
     false
 }
 
-/// The verdicts on a report to t and a question about u, while a worker who has the set of t is held, and on the question about
-/// t once it isn't.
+/// Reports to t and asks about u, while a worker who has the set of t is held, and asks about t once it isn't.
 fn call_meanwhile<B: BookNaming, R: Wait + Abort>(
     rt: &R,
     alloc: Global,
     shared: &SharedBook<B>,
     pass: &mut Pass<B>,
     barrier: &Barrier,
-) -> [&'static str; 3] {
+) {
     assert!(rt; is_set(&barrier.came));
-    let reported = verdict(rt, alloc, shared, pass, "a do t 0 sw x 2");
-    let other = verdict(rt, alloc, shared, pass, "a ask u");
+    report(rt, alloc, shared, pass, "a do t 0 sw x 2\n");
+    assert!(rt; verdict(rt, alloc, shared, pass, "a ask u") == "consistent");
     assert!(rt; !barrier.left.load(Ordering::SeqCst));
     barrier.open.store(true, Ordering::SeqCst);
-    [reported, other, verdict(rt, alloc, shared, pass, "a ask t")]
+    assert!(rt; verdict(rt, alloc, shared, pass, "a ask t") == "inconsistent");
 }
 
 fn hold<B: BookNaming + Send + Sync, R: Threads + Wait + Abort + Sync>(
@@ -159,16 +158,14 @@ fn hold<B: BookNaming + Send + Sync, R: Threads + Wait + Abort + Sync>(
     };
     let shared = SharedBook::<B>::new(alloc, token);
     let mut pass = entered(rt, alloc, &shared, BUFFERING);
-    let (verdicts, _) = thread::join(
+    thread::join(
         rt,
         || {
-            let verdicts = call_meanwhile(rt, alloc, &shared, &mut pass, &barrier);
+            call_meanwhile(rt, alloc, &shared, &mut pass, &barrier);
             shared.stop_workers();
-            verdicts
         },
         || run_searchers::<B, Barrier, R>(rt, alloc, &shared, &barrier, WORKERS),
     );
-    assert!(rt; verdicts == ["ok", "consistent", "inconsistent"]);
     audited(rt, alloc, shared, pass)
 }
 
@@ -191,20 +188,20 @@ fn is_worked_off<B: BookNaming, R: Wait>(rt: &R, shared: &SharedBook<B>) -> bool
     false
 }
 
-/// Reports the stores and rests; reports them once more, when workers have nothing to do, and rests. Then the verdict on t.
+/// Reports the stores and rests; reports them once more, when workers have nothing to do, and rests. Then it asks about t.
 fn rest_and_ask<B: BookNaming, R: Wait + Abort>(
     rt: &R,
     alloc: Global,
     shared: &SharedBook<B>,
     pass: &mut Pass<B>,
-) -> &'static str {
+) {
     for times in [TIMES, 1] {
         for _ in 0..times {
             report(rt, alloc, shared, pass, STORES);
         }
         assert!(rt; is_worked_off(rt, shared));
     }
-    verdict(rt, alloc, shared, pass, "a ask t")
+    assert!(rt; verdict(rt, alloc, shared, pass, "a ask t") == "inconsistent");
 }
 
 fn rest<B: BookNaming + Send + Sync, R: Threads + Wait + Abort + Sync>(
@@ -218,16 +215,14 @@ fn rest<B: BookNaming + Send + Sync, R: Threads + Wait + Abort + Sync>(
 {
     let shared = SharedBook::<B>::new(alloc, token);
     let mut pass = entered(rt, alloc, &shared, FORBIDDEN);
-    let (verdict, _) = thread::join(
+    thread::join(
         rt,
         || {
-            let verdict = rest_and_ask(rt, alloc, &shared, &mut pass);
+            rest_and_ask(rt, alloc, &shared, &mut pass);
             shared.stop_workers();
-            verdict
         },
         || run_searchers::<B, FreeGate, R>(rt, alloc, &shared, &FreeGate, WORKERS),
     );
-    assert!(rt; verdict == "inconsistent");
     audited(rt, alloc, shared, pass)
 }
 
