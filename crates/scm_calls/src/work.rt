@@ -6,6 +6,7 @@ use crate::lending::{
 };
 use crate::words::{ANNA, is_done, name, store};
 use scm_book::{Book, Call, Inquiry};
+use std::alloc::Global;
 use std::process::Abort;
 
 /// So many situations are looked for at a time.
@@ -22,15 +23,50 @@ fn awaits(rt: &impl Abort, book: &Book) -> bool {
     })
 }
 
+/// Whether a set is lent for work, which is lost then.
+fn lends(book: &mut Book) -> bool {
+    let lent = book.lend_work();
+    let is_lent = lent.is_some();
+    drop(lent);
+    is_lent
+}
+
 /// How often a set is lent for work.
 fn look_at_all(book: &mut Book) -> usize {
     let mut lent = 0;
     for _ in 0..10 {
-        if book.lend_work().is_some() {
+        if lends(book) {
             lent += 1;
         }
     }
     lent
+}
+
+/// No set is lent while one is away, and a question waits for it once the trace has grown.
+fn stays_lent(rt: &impl Abort, book: &mut Book) {
+    assert!(rt; !lends(book) && !book.may_want_work());
+    let t = name(rt, b"t");
+    assert!(rt; is_done(book.report(ANNA, t, 0, &store(rt, b"x", STORES))));
+    assert!(rt; !lends(book) && !book.may_want_work() && awaits(rt, book));
+}
+
+/// A trace that is explained as it stood at mark 0, and not as it is.
+fn forbidden_since_a_mark(rt: &impl Abort, alloc: Global) -> Book {
+    let mut book = Book::new(alloc);
+    open_forbidden(rt, &mut book);
+    report_stores(rt, &mut book, 1);
+    assert!(rt; is_consistent(rt, &mut book));
+    let _mark = book.mark(ANNA, name(rt, b"t"));
+    report_forbidden(rt, &mut book);
+    book
+}
+
+/// Whether the question about the trace as it stood at mark 0 waits for the set.
+fn awaits_at_mark(rt: &impl Abort, book: &Book) -> bool {
+    book.awaits_set(&Call::Ask {
+        name: name(rt, b"t"),
+        mark: Some(0),
+    })
 }
 
 #[test]
@@ -69,10 +105,7 @@ fn a_set_is_lent_once(rt: HostRuntime) {
     let mut book = forbidden(&rt, rt.alloc());
     assert!(rt; book.may_want_work() && !awaits(&rt, &book));
     let inquiry = lent(&rt, &mut book);
-    assert!(rt; book.lend_work().is_none() && !book.may_want_work());
-    let t = name(&rt, b"t");
-    assert!(rt; is_done(book.report(ANNA, t, 0, &store(&rt, b"x", STORES))));
-    assert!(rt; book.lend_work().is_none() && !book.may_want_work() && awaits(&rt, &book));
+    stays_lent(&rt, &mut book);
     book.take_back(inquiry);
     assert!(rt; book.may_want_work() && !awaits(&rt, &book));
 }
@@ -85,23 +118,12 @@ fn what_is_explained_wants_no_work(rt: HostRuntime) {
     assert!(rt; look_at_all(&mut book) == 0);
     report_forbidden(&rt, &mut book);
     assert!(rt; book.may_want_work());
-    let _inquiry = lent(&rt, &mut book);
-    assert!(rt; awaits(&rt, &book));
+    assert!(rt; lends(&mut book) && awaits(&rt, &book));
 }
 
 #[test]
 fn a_question_that_is_explained_awaits_nothing(rt: HostRuntime) {
-    let mut book = Book::new(rt.alloc());
-    let t = name(&rt, b"t");
-    open_forbidden(&rt, &mut book);
-    report_stores(&rt, &mut book, 1);
-    assert!(rt; is_consistent(&rt, &mut book));
-    let _mark = book.mark(ANNA, t);
-    report_forbidden(&rt, &mut book);
-    let _inquiry = lent(&rt, &mut book);
-    let at_mark = Call::Ask {
-        name: t,
-        mark: Some(0),
-    };
-    assert!(rt; awaits(&rt, &book) && !book.awaits_set(&at_mark));
+    let mut book = forbidden_since_a_mark(&rt, rt.alloc());
+    assert!(rt; lends(&mut book));
+    assert!(rt; awaits(&rt, &book) && !awaits_at_mark(&rt, &book));
 }
