@@ -31,15 +31,25 @@ fn lends(book: &mut Book) -> bool {
     is_lent
 }
 
-/// How often a set is lent for work.
-fn look_at_all(book: &mut Book) -> usize {
-    let mut lent = 0;
+/// Whether a set is lent for work, however often one is asked for.
+fn is_ever_lent(book: &mut Book) -> bool {
     for _ in 0..10 {
         if lends(book) {
-            lent += 1;
+            return true;
         }
     }
-    lent
+    false
+}
+
+/// How often work has to be done until nothing is left.
+fn times_of_work(inquiry: &mut Inquiry) -> usize {
+    let mut times: usize = 1;
+    for _ in 0..10 {
+        if inquiry.work(AT_ONCE) {
+            times = times.saturating_add(1);
+        }
+    }
+    times
 }
 
 /// No set is lent while one is away, and a question waits for it once the trace has grown.
@@ -73,18 +83,12 @@ fn awaits_at_mark(rt: &impl Abort, book: &Book) -> bool {
 fn work_spares_the_question(rt: HostRuntime) {
     let mut book = forbidden(&rt, rt.alloc());
     let mut inquiry = lent(&rt, &mut book);
-    let mut times = 1;
-    for _ in 0..10 {
-        if inquiry.work(AT_ONCE) {
-            times += 1;
-        }
-    }
-    assert!(rt; times == 4);
+    assert!(rt; times_of_work(&mut inquiry) == 4);
     assert!(rt; held(&rt, &book) == 1);
     book.take_back(inquiry);
     assert!(rt; held(&rt, &book) == SITUATIONS);
     assert!(rt; steps_of_refuted(&rt, &mut book) == 0);
-    assert!(rt; look_at_all(&mut book) == 0 && !book.may_want_work());
+    assert!(rt; !is_ever_lent(&mut book) && !book.may_want_work());
 }
 
 #[test]
@@ -115,7 +119,7 @@ fn what_is_explained_wants_no_work(rt: HostRuntime) {
     let mut book = Book::new(rt.alloc());
     open_forbidden(&rt, &mut book);
     report_stores(&rt, &mut book, 1);
-    assert!(rt; look_at_all(&mut book) == 0);
+    assert!(rt; !is_ever_lent(&mut book));
     report_forbidden(&rt, &mut book);
     assert!(rt; book.may_want_work());
     assert!(rt; lends(&mut book) && awaits(&rt, &book));
