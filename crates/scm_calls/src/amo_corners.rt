@@ -1,6 +1,7 @@
 //! What AMOs store at the ends of their range and at a few numbers between, by another program's arithmetic on bits.
 use scm_amo::{AmoKind, apply};
 use scm_cells::Width;
+use std::process::Abort;
 
 const KINDS: [AmoKind; 9] = [
     AmoKind::Swap,
@@ -203,12 +204,18 @@ const DOUBLE_WORDS: [(u64, u64, [u64; 9]); 8] = [
     ),
 ];
 
+/// What an AMO stores, of this old value and this operand, is what is wanted.
+fn check(rt: &impl Abort, kind: AmoKind, [old, operand]: [u64; 2], got: u64, want: u64) {
+    assert!(rt; got == want, "{kind:?} of {old} and {operand}");
+}
+
 #[test]
 fn words(rt: HostRuntime) {
     for (old, operand, stored) in WORDS.iter() {
         for (kind, want) in KINDS.iter().zip(stored.iter()) {
             let got = apply(*kind, Width::W, u64::from(*old), u64::from(*operand));
-            assert!(rt; got == u64::from(*want), "{kind:?} of {old} and {operand}");
+            let numbers = [u64::from(*old), u64::from(*operand)];
+            check(&rt, *kind, numbers, got, u64::from(*want));
         }
     }
 }
@@ -218,7 +225,7 @@ fn double_words(rt: HostRuntime) {
     for (old, operand, stored) in DOUBLE_WORDS.iter() {
         for (kind, want) in KINDS.iter().zip(stored.iter()) {
             let got = apply(*kind, Width::D, *old, *operand);
-            assert!(rt; got == *want, "{kind:?} of {old} and {operand}");
+            check(&rt, *kind, [*old, *operand], got, *want);
         }
     }
 }

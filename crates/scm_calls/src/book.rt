@@ -1,7 +1,7 @@
 //! The calls on their happy paths. The worked rows have every refusal.
 
 use crate::traces::{read, sequences_of, write};
-use crate::words::{ANNA, BERT, add_call, cell, is_done, load, name, store};
+use crate::words::{ANNA, BERT, add_call, cell, done, load, marked, name, refuted, store};
 use scm_book::{Book, Call, Entry, Event, Reply, run_events};
 use scm_cells::Name;
 use scm_frontier::Situation;
@@ -27,6 +27,10 @@ fn assert_empty_schedule(rt: &impl Abort, reply: Reply) {
     assert!(rt; fixed.is_empty());
 }
 
+fn assert_undecided(rt: &impl Abort, reply: Reply) {
+    assert!(rt; matches!(reply, Reply::Undecided));
+}
+
 fn assert_refused(rt: &impl Abort, reply: Reply, refusal: Refusal) {
     let Reply::Refused(given) = reply else {
         panic!(rt; "not refused");
@@ -38,18 +42,18 @@ fn assert_refused(rt: &impl Abort, reply: Reply, refusal: Refusal) {
 fn open_two(rt: &impl Abort, book: &mut Book, budget: u64) {
     let t = name(rt, b"t");
     let cells = [cell(rt, b"x"), cell(rt, b"y")];
-    assert!(rt; is_done(book.open(ANNA, t, 2, budget, &cells)));
-    assert!(rt; is_done(book.claim(ANNA, t, 0)));
-    assert!(rt; is_done(book.claim(BERT, t, 1)));
+    done(rt, book.open(ANNA, t, 2, budget, &cells));
+    done(rt, book.claim(ANNA, t, 0));
+    done(rt, book.claim(BERT, t, 1));
 }
 
 /// Reports that Anna stores 1 in x and then in y, and that Bert loads 1 from y and then this from x.
 fn pass_message(rt: &impl Abort, book: &mut Book, last: u64) {
     let t = name(rt, b"t");
-    assert!(rt; is_done(book.report(ANNA, t, 0, &store(rt, b"x", 1))));
-    assert!(rt; is_done(book.report(ANNA, t, 0, &store(rt, b"y", 1))));
-    assert!(rt; is_done(book.report(BERT, t, 1, &load(rt, b"y", 1))));
-    assert!(rt; is_done(book.report(BERT, t, 1, &load(rt, b"x", last))));
+    done(rt, book.report(ANNA, t, 0, &store(rt, b"x", 1)));
+    done(rt, book.report(ANNA, t, 0, &store(rt, b"y", 1)));
+    done(rt, book.report(BERT, t, 1, &load(rt, b"y", 1)));
+    done(rt, book.report(BERT, t, 1, &load(rt, b"x", last)));
 }
 
 // What the reports of a passed message are: the cell x has the number 0, y the number 1.
@@ -125,19 +129,19 @@ fn messages_are_judged(rt: HostRuntime) {
     let mut book = Book::new(rt.alloc());
     open_two(&rt, &mut book, 100);
     let t = name(&rt, b"t");
-    assert!(rt; matches!(book.mark(ANNA, t), Reply::MarkSet(0)));
+    marked(&rt, book.mark(ANNA, t));
     pass_message(&rt, &mut book, 1);
     judge_passed(&rt, rt.alloc(), ask(&mut book, BERT, t, None));
-    assert!(rt; is_done(book.back(ANNA, t, 0)));
+    done(&rt, book.back(ANNA, t, 0));
     pass_message(&rt, &mut book, 0);
-    assert!(rt; matches!(ask(&mut book, ANNA, t, None), Reply::Inconsistent));
+    refuted(&rt, ask(&mut book, ANNA, t, None));
     judge_lost(&rt, rt.alloc(), &why(&mut book, ANNA, t, None));
 }
 
 /// Makes a copy of a call, which is done, and answers with the reply to the call itself.
 fn call_twice(rt: &impl Abort, book: &mut Book, call: Call) -> Reply {
     let copy = call.copy().expect(rt, "memory");
-    assert!(rt; is_done(book.call(ANNA, copy)));
+    done(rt, book.call(ANNA, copy));
     book.call(ANNA, call)
 }
 
@@ -145,8 +149,9 @@ fn call_twice(rt: &impl Abort, book: &mut Book, call: Call) -> Reply {
 fn ask_kept(rt: &impl Abort, book: &mut Book, ask: &Call) {
     let (verdict, kept) = book.call_kept(ANNA, ask.copy().expect(rt, "memory"));
     let copy = verdict.copy().expect(rt, "memory");
-    assert!(rt; matches!(copy, Reply::Consistent { .. }));
-    assert!(rt; matches!(kept, Some((Call::Ask { .. }, Reply::Consistent { .. }))));
+    let is_copied = matches!(copy, Reply::Consistent { .. });
+    let is_kept = matches!(kept, Some((Call::Ask { .. }, Reply::Consistent { .. })));
+    assert!(rt; is_copied && is_kept);
 }
 
 fn call_to_open(rt: &impl Abort, alloc: Global, name: Name) -> Call {
@@ -177,7 +182,7 @@ fn calls_are_copied_and_made(rt: HostRuntime) {
         process,
         access,
     };
-    assert!(rt; is_done(call_twice(&rt, &mut book, report)));
+    done(&rt, call_twice(&rt, &mut book, report));
     ask_kept(&rt, &mut book, &Call::Ask { name, mark: None });
 }
 
@@ -187,21 +192,21 @@ fn a_return_cuts_to_its_mark(rt: HostRuntime) {
     let mut book = Book::new(rt.alloc());
     open_two(&rt, &mut book, 1);
     let t = name(&rt, b"t");
-    assert!(rt; matches!(book.mark(ANNA, t), Reply::MarkSet(0)));
+    marked(&rt, book.mark(ANNA, t));
     pass_message(&rt, &mut book, 0);
-    assert!(rt; matches!(ask(&mut book, ANNA, t, None), Reply::Undecided));
+    assert_undecided(&rt, ask(&mut book, ANNA, t, None));
     assert_empty_schedule(&rt, ask(&mut book, BERT, t, Some(0)));
-    assert!(rt; is_done(book.raise(ANNA, t, 100)));
-    assert!(rt; matches!(ask(&mut book, BERT, t, None), Reply::Inconsistent));
-    assert!(rt; is_done(book.back(ANNA, t, 0)));
+    done(&rt, book.raise(ANNA, t, 100));
+    refuted(&rt, ask(&mut book, BERT, t, None));
+    done(&rt, book.back(ANNA, t, 0));
     assert_empty_schedule(&rt, ask(&mut book, BERT, t, None));
 }
 
 /// Anna stores a value in x, and Bert loads it.
 fn pass_value(rt: &impl Abort, book: &mut Book, value: u64) {
     let t = name(rt, b"t");
-    assert!(rt; is_done(book.report(ANNA, t, 0, &store(rt, b"x", value))));
-    assert!(rt; is_done(book.report(BERT, t, 1, &load(rt, b"x", value))));
+    done(rt, book.report(ANNA, t, 0, &store(rt, b"x", value)));
+    done(rt, book.report(BERT, t, 1, &load(rt, b"x", value)));
 }
 
 /// How long the schedule is that a question is answered with.
@@ -212,6 +217,16 @@ fn schedule_length(rt: &impl Abort, reply: Reply) -> usize {
     schedule.len()
 }
 
+fn assert_length(rt: &impl Abort, reply: Reply, length: usize) {
+    assert!(rt; schedule_length(rt, reply) == length);
+}
+
+/// A value is passed, and the schedule grows.
+fn pass_value_on(rt: &impl Abort, book: &mut Book, value: u64) {
+    pass_value(rt, book, value);
+    assert!(rt; schedule_length(rt, why(book, BERT, name(rt, b"t"), None)) >= 4);
+}
+
 // A schedule is gone on from, under a budget of 3, which no search of more than a few operations has enough of: also after a
 // question at a mark dropped situations, as values are passed on and on, and after a return.
 #[test]
@@ -219,28 +234,27 @@ fn a_schedule_is_gone_on_from(rt: HostRuntime) {
     let mut book = Book::new(rt.alloc());
     open_two(&rt, &mut book, 3);
     let t = name(&rt, b"t");
-    assert!(rt; is_done(book.report(BERT, t, 1, &store(&rt, b"x", 1))));
-    assert!(rt; matches!(book.mark(ANNA, t), Reply::MarkSet(0)));
-    assert!(rt; is_done(book.report(ANNA, t, 0, &load(&rt, b"x", 0))));
-    assert!(rt; schedule_length(&rt, ask(&mut book, ANNA, t, None)) == 2);
-    assert!(rt; schedule_length(&rt, ask(&mut book, ANNA, t, Some(0))) == 1);
-    assert!(rt; schedule_length(&rt, ask(&mut book, ANNA, t, None)) == 2);
+    done(&rt, book.report(BERT, t, 1, &store(&rt, b"x", 1)));
+    marked(&rt, book.mark(ANNA, t));
+    done(&rt, book.report(ANNA, t, 0, &load(&rt, b"x", 0)));
+    assert_length(&rt, ask(&mut book, ANNA, t, None), 2);
+    assert_length(&rt, ask(&mut book, ANNA, t, Some(0)), 1);
+    assert_length(&rt, ask(&mut book, ANNA, t, None), 2);
     for value in 2..6 {
-        pass_value(&rt, &mut book, value);
-        assert!(rt; schedule_length(&rt, why(&mut book, BERT, t, None)) >= 4);
+        pass_value_on(&rt, &mut book, value);
     }
-    assert!(rt; is_done(book.back(ANNA, t, 0)));
+    done(&rt, book.back(ANNA, t, 0));
     pass_value(&rt, &mut book, 9);
-    assert!(rt; schedule_length(&rt, ask(&mut book, ANNA, t, None)) == 3);
-    assert!(rt; schedule_length(&rt, ask(&mut book, ANNA, t, Some(0))) == 1);
+    assert_length(&rt, ask(&mut book, ANNA, t, None), 3);
+    assert_length(&rt, ask(&mut book, ANNA, t, Some(0)), 1);
 }
 
-/// How many traces a copy of the reply lists.
-fn count_listed(rt: &impl Abort, reply: &Reply) -> usize {
-    match reply.copy().expect(rt, "memory") {
-        Reply::Traces(names) => names.len(),
-        _ => panic!(rt; "not listed"),
-    }
+/// A copy of the reply lists one trace.
+fn assert_one_listed(rt: &impl Abort, reply: &Reply) {
+    let Reply::Traces(names) = reply.copy().expect(rt, "memory") else {
+        panic!(rt; "not listed");
+    };
+    assert!(rt; names.len() == 1);
 }
 
 #[test]
@@ -248,11 +262,11 @@ fn traces_are_released_listed_and_closed(rt: HostRuntime) {
     let mut book = Book::new(rt.alloc());
     open_two(&rt, &mut book, 100);
     let t = name(&rt, b"t");
-    assert!(rt; is_done(book.release(ANNA, t, 0)));
-    assert!(rt; is_done(book.claim(BERT, t, 0)));
-    assert!(rt; count_listed(&rt, &book.list(BERT)) == 1);
+    done(&rt, book.release(ANNA, t, 0));
+    done(&rt, book.claim(BERT, t, 0));
+    assert_one_listed(&rt, &book.list(BERT));
     assert_refused(&rt, book.close(BERT, t), Refusal::NotOwner);
-    assert!(rt; is_done(book.close(ANNA, t)));
+    done(&rt, book.close(ANNA, t));
     assert_refused(&rt, ask(&mut book, ANNA, t, None), Refusal::NoSuchTrace);
 }
 
@@ -276,14 +290,22 @@ fn are_numbered(entries: &[Entry], numbers: &[u64]) -> bool {
             .all(|(entry, number)| entry.number == *number)
 }
 
+fn assert_answered(rt: &impl Abort, replies: &[Reply]) {
+    assert!(rt; replies.len() == 3);
+    assert!(rt; matches!(replies[0], Reply::Traces(_)));
+}
+
+fn assert_entered(rt: &impl Abort, book: &Book) {
+    assert!(rt; are_numbered(book.entries(), &[0, 0, 1]));
+    assert!(rt; book.count_of(ANNA) == 2 && book.count_of(BERT) == 1);
+}
+
 #[test]
 fn events_are_answered_and_entered(rt: HostRuntime) {
     let events = three_calls(&rt, rt.alloc());
     let Ok((book, replies)) = run_events(rt.alloc(), Book::new(rt.alloc()), events) else {
         panic!(&rt; "no memory");
     };
-    assert!(rt; replies.len() == 3);
-    assert!(rt; matches!(replies[0], Reply::Traces(_)));
-    assert!(rt; are_numbered(book.entries(), &[0, 0, 1]));
-    assert!(rt; book.count_of(ANNA) == 2 && book.count_of(BERT) == 1);
+    assert_answered(&rt, &replies);
+    assert_entered(&rt, &book);
 }

@@ -17,22 +17,20 @@ fn given(number: u64) -> Initial {
     Initial::Given(Num::Plain(number))
 }
 
+/// Adds a cell, which takes this place.
+fn add(rt: &impl Abort, cells: &mut Cells, place: u8, word: &str, width: Width, first: &str) {
+    let added = cells.add(name(rt, word), width, initial(rt, first));
+    assert!(rt; added == Ok(place));
+}
+
 /// The cells x, y and later, which were added in this order.
-fn three_cells(rt: &impl Abort, alloc: Global) -> Result<Cells, Refusal> {
+fn three_cells(rt: &impl Abort, alloc: Global) -> Cells {
     let mut cells = Cells::new(alloc);
     assert!(rt; cells.is_empty());
-    for (place, (word, width, first)) in [
-        ("x", Width::W, "-1"),
-        ("y", Width::D, "7"),
-        ("later", Width::W, "?"),
-    ]
-    .iter()
-    .enumerate()
-    {
-        let added = cells.add(name(rt, word), *width, initial(rt, first))?;
-        assert!(rt; usize::from(added) == place);
-    }
-    Ok(cells)
+    add(rt, &mut cells, 0, "x", Width::W, "-1");
+    add(rt, &mut cells, 1, "y", Width::D, "7");
+    add(rt, &mut cells, 2, "later", Width::W, "?");
+    cells
 }
 
 /// Whether cell 1 is y, and what cell 0 is.
@@ -45,7 +43,7 @@ fn has_three_cells(rt: &impl Abort, cells: &Cells) -> bool {
 
 #[test]
 fn adds_cells(rt: HostRuntime) -> Result<(), Fail> {
-    let cells = three_cells(&rt, rt.alloc())?;
+    let cells = three_cells(&rt, rt.alloc());
     assert!(rt; has_three_cells(&rt, &cells));
     let initials = cells.initials()?;
     assert!(rt; initials.as_slice() == [Some(4294967295), Some(7), None].as_slice());
@@ -58,11 +56,10 @@ fn places(rt: &impl Abort, cells: &Cells, words: [&str; 4]) -> [Option<u8>; 4] {
 }
 
 #[test]
-fn finds_cells(rt: HostRuntime) -> Result<(), Fail> {
-    let cells = three_cells(&rt, rt.alloc())?;
+fn finds_cells(rt: HostRuntime) {
+    let cells = three_cells(&rt, rt.alloc());
     let places = places(&rt, &cells, ["x", "y", "later", "z"]);
     assert!(rt; places == [Some(0), Some(1), Some(2), None]);
-    Ok(())
 }
 
 #[test]

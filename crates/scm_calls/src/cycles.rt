@@ -2,7 +2,7 @@
 use crate::traces::{read, sequences_of, swap, write};
 use scm_cycles::find_cycle;
 use scm_orders::orders_refute;
-use scm_sequences::Op;
+use scm_sequences::{Lengths, Op, Sequences};
 use std::alloc::Global;
 use std::process::Abort;
 
@@ -15,11 +15,20 @@ fn lines(
     operations: &[(usize, Op)],
 ) -> usize {
     let sequences = sequences_of(rt, alloc, 4, operations);
-    let lengths = sequences.lengths();
-    let Some(edges) = find_cycle(alloc, initials, &sequences, &lengths) else {
+    judged_lines(rt, alloc, initials, &sequences, &sequences.lengths())
+}
+
+fn judged_lines(
+    rt: &impl Abort,
+    alloc: Global,
+    initials: &[Option<u64>],
+    sequences: &Sequences,
+    lengths: &Lengths,
+) -> usize {
+    let Some(edges) = find_cycle(alloc, initials, sequences, lengths) else {
         return 0;
     };
-    assert!(rt; orders_refute(initials, &sequences, &lengths, &edges));
+    assert!(rt; orders_refute(initials, sequences, lengths, &edges));
     edges.len()
 }
 

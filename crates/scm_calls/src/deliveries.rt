@@ -1,6 +1,6 @@
 //! What workers take and deliver, between the calls of a session.
 
-use crate::words::{ANNA, add_call, add_event, cell, is_done, load, name, store};
+use crate::words::{ANNA, add_call, add_event, cell, done, load, marked, name, refuted, store};
 use scm_book::{Book, Call, Event, Reply, run_events};
 use scm_expand::{Outcome, Task, expand};
 use scm_frontier::Steps;
@@ -13,26 +13,26 @@ use std::process::Abort;
 /// Anna claims each process of t.
 fn claim_all(rt: &impl Abort, book: &mut Book, procs: u64) {
     for process in 0..procs {
-        assert!(rt; is_done(book.claim(ANNA, name(rt, b"t"), process)));
+        done(rt, book.claim(ANNA, name(rt, b"t"), process));
     }
 }
 
 /// Opens t with the cell x. Anna claims each process.
 fn open_x(rt: &impl Abort, book: &mut Book, procs: u64, budget: u64) {
     let cells = [cell(rt, b"x")];
-    assert!(rt; is_done(book.open(ANNA, name(rt, b"t"), procs, budget, &cells)));
+    done(rt, book.open(ANNA, name(rt, b"t"), procs, budget, &cells));
     claim_all(rt, book, procs);
 }
 
 /// Anna reports an access of a process of t.
 fn report(rt: &impl Abort, book: &mut Book, process: u64, access: Access) {
-    assert!(rt; is_done(book.report(ANNA, name(rt, b"t"), process, &access)));
+    done(rt, book.report(ANNA, name(rt, b"t"), process, &access));
 }
 
 /// Opens t with the cells x and y. Each of two processes stores 1 in its own cell, and then loads 0 from the other's.
 fn buffer_stores(rt: &impl Abort, book: &mut Book) {
     let cells = [cell(rt, b"x"), cell(rt, b"y")];
-    assert!(rt; is_done(book.open(ANNA, name(rt, b"t"), 2, 100, &cells)));
+    done(rt, book.open(ANNA, name(rt, b"t"), 2, 100, &cells));
     claim_all(rt, book, 2);
     report(rt, book, 0, store(rt, b"x", 1));
     report(rt, book, 0, load(rt, b"y", 0));
@@ -104,7 +104,7 @@ fn ask(rt: &impl Abort, book: &mut Book) -> (Reply, u64) {
 /// How many steps it takes to find out that t is not consistent.
 fn steps_to_ask(rt: &impl Abort, book: &mut Book) -> u64 {
     let (reply, steps) = ask(rt, book);
-    assert!(rt; matches!(reply, Reply::Inconsistent));
+    refuted(rt, reply);
     steps
 }
 
@@ -153,9 +153,9 @@ fn work_off(rt: &impl Abort, alloc: Global, book: &mut Book) {
 
 /// Closes t, and opens u, which is just as t was.
 fn go_to_another(rt: &impl Abort, book: &mut Book) {
-    assert!(rt; is_done(book.close(ANNA, name(rt, b"t"))));
+    done(rt, book.close(ANNA, name(rt, b"t")));
     let cells = [cell(rt, b"x")];
-    assert!(rt; is_done(book.open(ANNA, name(rt, b"u"), 1, 100, &cells)));
+    done(rt, book.open(ANNA, name(rt, b"u"), 1, 100, &cells));
 }
 
 // An outcome is stale where its trace is gone, whatever else is open. It counts for a trace that was opened again, where it
@@ -210,8 +210,17 @@ fn full_then_room(rt: HostRuntime) {
     let first = expanded(&rt, first);
     let second = expanded(&rt, second);
     overfill(&rt, rt.alloc(), &mut book, first, &second);
-    assert!(rt; is_done(book.raise(ANNA, name(&rt, b"t"), 5)));
+    done(&rt, book.raise(ANNA, name(&rt, b"t"), 5));
     deliver(&rt, rt.alloc(), &mut book, &second, Fate::Accepted);
+}
+
+fn assert_leads_nowhere(rt: &impl Abort, outcome: &Outcome) {
+    assert!(rt; outcome.next().is_none());
+}
+
+fn assert_nothing_to_take(rt: &impl Abort, book: &mut Book) {
+    let task = take_one(rt, book);
+    assert!(rt; task.is_none());
 }
 
 // A load of another value than its cell holds leads nowhere, and that is found out once.
@@ -221,14 +230,14 @@ fn no_step(rt: HostRuntime) {
     open_x(&rt, &mut book, 1, 100);
     report(&rt, &mut book, 0, load(&rt, b"x", 1));
     let outcome = next_outcome(&rt, &mut book);
-    assert!(rt; outcome.next().is_none());
+    assert_leads_nowhere(&rt, &outcome);
     deliver(&rt, rt.alloc(), &mut book, &outcome, Fate::Known);
-    assert!(rt; take_one(&rt, &mut book).is_none());
+    assert_nothing_to_take(&rt, &mut book);
 }
 
-/// Whether the task was that process 0 stores 1 in x.
-fn is_first_store(task: &Task) -> bool {
-    task.process == 0 && task.op == Op::W { cell: 0, value: 1 }
+/// The task was that process 0 stores 1 in x.
+fn assert_first_store(rt: &impl Abort, task: &Task) {
+    assert!(rt; task.process == 0 && task.op == Op::W { cell: 0, value: 1 });
 }
 
 // The situation of an outcome is still there after a return, but another operation is the next one.
@@ -236,11 +245,11 @@ fn is_first_store(task: &Task) -> bool {
 fn late_outcome(rt: HostRuntime) {
     let mut book = Book::new(rt.alloc());
     open_x(&rt, &mut book, 2, 100);
-    assert!(rt; matches!(book.mark(ANNA, name(&rt, b"t")), Reply::MarkSet(0)));
+    marked(&rt, book.mark(ANNA, name(&rt, b"t")));
     report(&rt, &mut book, 0, store(&rt, b"x", 1));
     let outcome = next_outcome(&rt, &mut book);
-    assert!(rt; is_first_store(outcome.task()));
-    assert!(rt; is_done(book.back(ANNA, name(&rt, b"t"), 0)));
+    assert_first_store(&rt, outcome.task());
+    done(&rt, book.back(ANNA, name(&rt, b"t"), 0));
     report(&rt, &mut book, 0, store(&rt, b"x", 2));
     deliver(&rt, rt.alloc(), &mut book, &outcome, Fate::Stale);
     report(&rt, &mut book, 1, load(&rt, b"x", 2));
@@ -249,23 +258,35 @@ fn late_outcome(rt: HostRuntime) {
     deliver(&rt, rt.alloc(), &mut book, &outcome, Fate::Stale);
 }
 
+/// Steps were made, and no more than there are.
+fn assert_few(rt: &impl Abort, made: u64) {
+    assert!(rt; 0 < made && made <= 14);
+}
+
+/// What workers found out about the stores.
+fn assert_worked_off(rt: &impl Abort, results: &Results) {
+    assert!(rt; results.accepted == 7 && results.known == 5);
+    assert!(rt; results.delivered() == 12 && results.taken == 12);
+}
+
 // What a question found out is spared the next one, and what workers found out too. The book counts all steps.
 #[test]
 fn steps_kept(rt: HostRuntime) {
     let mut book = Book::new(rt.alloc());
     buffer_stores(&rt, &mut book);
     let made = steps_to_ask(&rt, &mut book);
-    assert!(rt; 0 < made && made <= 14);
-    assert!(rt; steps_to_ask(&rt, &mut book) == 0);
-    assert!(rt; steps_to_refute(&rt, &mut book) == 0);
-    assert!(rt; is_done(book.close(ANNA, name(&rt, b"t"))));
+    assert_few(&rt, made);
+    let again = [
+        steps_to_ask(&rt, &mut book),
+        steps_to_refute(&rt, &mut book),
+    ];
+    assert!(rt; again == [0, 0]);
+    done(&rt, book.close(ANNA, name(&rt, b"t")));
     buffer_stores(&rt, &mut book);
     work_off(&rt, rt.alloc(), &mut book);
-    let results = book.results();
-    assert!(rt; results.accepted == 7 && results.known == 5);
-    assert!(rt; results.delivered() == 12 && results.taken == 12);
-    assert!(rt; steps_to_ask(&rt, &mut book) == 0);
-    assert!(rt; book.steps() == made);
+    assert_worked_off(&rt, &book.results());
+    let spared = steps_to_ask(&rt, &mut book);
+    assert!(rt; spared == 0 && book.steps() == made);
 }
 
 /// Calls of Anna, with a taking and a delivery between them.

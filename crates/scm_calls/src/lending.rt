@@ -1,6 +1,6 @@
 //! Questions that are lent by a book, and what is taken back after whatever happened meanwhile.
 
-use crate::words::{ANNA, cell, is_done, load, name, store};
+use crate::words::{ANNA, cell, done, load, marked, name, refuted, store};
 use scm_book::{Book, Call, Decl, Inquiry, Reply};
 use scm_cells::{Initial, Num};
 use scm_frontier::Steps;
@@ -22,24 +22,24 @@ pub(crate) fn open_forbidden(rt: &impl Abort, book: &mut Book) {
 fn open_with(rt: &impl Abort, book: &mut Book, budget: u64, first: Decl) {
     let t = name(rt, b"t");
     let cells = [first, cell(rt, b"y"), cell(rt, b"z")];
-    assert!(rt; is_done(book.open(ANNA, t, 4, budget, &cells)));
+    done(rt, book.open(ANNA, t, 4, budget, &cells));
     for process in 0..4 {
-        assert!(rt; is_done(book.claim(ANNA, t, process)));
+        done(rt, book.claim(ANNA, t, process));
     }
 }
 
 pub(crate) fn report_stores(rt: &impl Abort, book: &mut Book, from: u64) {
     let t = name(rt, b"t");
     for value in from..=STORES {
-        assert!(rt; is_done(book.report(ANNA, t, 0, &store(rt, b"x", value))));
-        assert!(rt; is_done(book.report(ANNA, t, 1, &store(rt, b"y", value))));
-        assert!(rt; is_done(book.report(ANNA, t, 2, &store(rt, b"z", value))));
+        done(rt, book.report(ANNA, t, 0, &store(rt, b"x", value)));
+        done(rt, book.report(ANNA, t, 1, &store(rt, b"y", value)));
+        done(rt, book.report(ANNA, t, 2, &store(rt, b"z", value)));
     }
 }
 
 pub(crate) fn report_forbidden(rt: &impl Abort, book: &mut Book) {
     let t = name(rt, b"t");
-    assert!(rt; is_done(book.report(ANNA, t, 3, &load(rt, b"x", STORES + 1))));
+    done(rt, book.report(ANNA, t, 3, &load(rt, b"x", STORES + 1)));
 }
 
 pub(crate) fn forbidden(rt: &impl Abort, alloc: Global) -> Book {
@@ -64,8 +64,10 @@ fn searched(rt: &impl Abort, book: &mut Book) -> Inquiry {
     inquiry
 }
 
-pub(crate) fn held(rt: &impl Abort, book: &Book) -> usize {
-    book.held(&name(rt, b"t")).expect(rt, "t")
+/// The set of t holds so many situations.
+pub(crate) fn assert_held(rt: &impl Abort, book: &Book, count: usize) {
+    let held = book.held(&name(rt, b"t"));
+    assert!(rt; held == Some(count));
 }
 
 /// What the question under the book is answered, and its steps.
@@ -79,34 +81,53 @@ fn answer(rt: &impl Abort, book: &mut Book) -> (Reply, u64) {
     (reply, steps.made())
 }
 
-pub(crate) fn is_consistent(rt: &impl Abort, book: &mut Book) -> bool {
+pub(crate) fn assert_consistent(rt: &impl Abort, book: &mut Book) {
     let (reply, _) = answer(rt, book);
-    matches!(reply, Reply::Consistent { .. })
+    assert!(rt; matches!(reply, Reply::Consistent { .. }));
 }
 
 /// The question under the book, and whether it is inconsistent; gives its steps.
-pub(crate) fn steps_of_refuted(rt: &impl Abort, book: &mut Book) -> u64 {
+fn steps_of_refuted(rt: &impl Abort, book: &mut Book) -> u64 {
     let (reply, steps) = answer(rt, book);
-    assert!(rt; matches!(reply, Reply::Inconsistent));
+    refuted(rt, reply);
     steps
+}
+
+/// The question is inconsistent, and takes no step.
+pub(crate) fn assert_spared(rt: &impl Abort, book: &mut Book) {
+    let steps = steps_of_refuted(rt, book);
+    assert!(rt; steps == 0);
+}
+
+/// It is inconsistent, and takes steps.
+fn assert_searched(rt: &impl Abort, book: &mut Book) {
+    let steps = steps_of_refuted(rt, book);
+    assert!(rt; steps > 0);
+}
+
+fn lends(book: &mut Book, call: &Call) -> bool {
+    let lent = book.lend(call);
+    let is_lent = lent.is_some();
+    drop(lent);
+    is_lent
 }
 
 #[test]
 fn what_was_found_spares_the_question(rt: HostRuntime) {
     let mut book = forbidden(&rt, rt.alloc());
     let inquiry = searched(&rt, &mut book);
-    assert!(rt; held(&rt, &book) == 1);
+    assert_held(&rt, &book, 1);
     book.take_back(inquiry);
-    assert!(rt; held(&rt, &book) == SITUATIONS);
-    assert!(rt; steps_of_refuted(&rt, &mut book) == 0);
+    assert_held(&rt, &book, SITUATIONS);
+    assert_spared(&rt, &mut book);
 }
 
 #[test]
 fn a_lost_question_is_asked_anew(rt: HostRuntime) {
     let mut book = forbidden(&rt, rt.alloc());
     let _ = searched(&rt, &mut book);
-    assert!(rt; steps_of_refuted(&rt, &mut book) > 0);
-    assert!(rt; held(&rt, &book) == SITUATIONS);
+    assert_searched(&rt, &mut book);
+    assert_held(&rt, &book, SITUATIONS);
 }
 
 #[test]
@@ -114,10 +135,10 @@ fn a_report_meanwhile_cuts_nothing(rt: HostRuntime) {
     let mut book = forbidden(&rt, rt.alloc());
     let inquiry = searched(&rt, &mut book);
     let t = name(&rt, b"t");
-    assert!(rt; is_done(book.report(ANNA, t, 0, &store(&rt, b"x", 77))));
+    done(&rt, book.report(ANNA, t, 0, &store(&rt, b"x", 77)));
     book.take_back(inquiry);
-    assert!(rt; held(&rt, &book) == SITUATIONS);
-    assert!(rt; steps_of_refuted(&rt, &mut book) > 0);
+    assert_held(&rt, &book, SITUATIONS);
+    assert_searched(&rt, &mut book);
 }
 
 /// What was reported since the mark is reported anew, the last store of x otherwise.
@@ -126,15 +147,15 @@ fn a_return_meanwhile_leaves_what_is_in_common(rt: HostRuntime) {
     let mut book = Book::new(rt.alloc());
     let t = name(&rt, b"t");
     open_forbidden(&rt, &mut book);
-    assert!(rt; matches!(book.mark(ANNA, t), Reply::MarkSet(0)));
+    marked(&rt, book.mark(ANNA, t));
     report_stores(&rt, &mut book, 1);
     report_forbidden(&rt, &mut book);
     let inquiry = searched(&rt, &mut book);
-    assert!(rt; is_done(book.back(ANNA, t, 0)));
+    done(&rt, book.back(ANNA, t, 0));
     report_stores(&rt, &mut book, STORES);
     book.take_back(inquiry);
-    assert!(rt; held(&rt, &book) == 1);
-    assert!(rt; is_consistent(&rt, &mut book));
+    assert_held(&rt, &book, 1);
+    assert_consistent(&rt, &mut book);
 }
 
 #[test]
@@ -142,27 +163,28 @@ fn a_closed_trace_takes_nothing_back(rt: HostRuntime) {
     let mut book = forbidden(&rt, rt.alloc());
     let inquiry = searched(&rt, &mut book);
     let t = name(&rt, b"t");
-    assert!(rt; is_done(book.close(ANNA, t)));
+    done(&rt, book.close(ANNA, t));
     book.take_back(inquiry);
-    assert!(rt; book.held(&t).is_none());
+    let held = book.held(&t);
+    assert!(rt; held.is_none());
 }
 
 #[test]
 fn another_trace_of_the_name_takes_what_is_in_common(rt: HostRuntime) {
     let mut book = forbidden(&rt, rt.alloc());
     let inquiry = searched(&rt, &mut book);
-    assert!(rt; is_done(book.close(ANNA, name(&rt, b"t"))));
+    done(&rt, book.close(ANNA, name(&rt, b"t")));
     open_forbidden(&rt, &mut book);
     report_stores(&rt, &mut book, 1);
     book.take_back(inquiry);
-    assert!(rt; held(&rt, &book) == SITUATIONS);
-    assert!(rt; is_consistent(&rt, &mut book));
+    assert_held(&rt, &book, SITUATIONS);
+    assert_consistent(&rt, &mut book);
 }
 
 /// The trace is closed and opened anew, with this budget and this cell for the first one. Then the question is taken back.
 fn taken_by_another(rt: &impl Abort, book: &mut Book, budget: u64, first: Decl) {
     let inquiry = searched(rt, book);
-    assert!(rt; is_done(book.close(ANNA, name(rt, b"t"))));
+    done(rt, book.close(ANNA, name(rt, b"t")));
     open_with(rt, book, budget, first);
     report_stores(rt, book, 1);
     book.take_back(inquiry);
@@ -176,14 +198,14 @@ fn other_first_contents_take_nothing(rt: HostRuntime) {
         ..cell(&rt, b"x")
     };
     taken_by_another(&rt, &mut book, BUDGET, first);
-    assert!(rt; held(&rt, &book) == 1);
+    assert_held(&rt, &book, 1);
 }
 
 #[test]
 fn a_smaller_budget_takes_nothing(rt: HostRuntime) {
     let mut book = forbidden(&rt, rt.alloc());
     taken_by_another(&rt, &mut book, SITUATIONS as u64 - 1, cell(&rt, b"x"));
-    assert!(rt; held(&rt, &book) == 1);
+    assert_held(&rt, &book, 1);
 }
 
 /// The budget is spent, and raised while the question is away: the next one goes on from there.
@@ -194,9 +216,9 @@ fn a_raised_budget_goes_on(rt: HostRuntime) {
     report_stores(&rt, &mut book, 1);
     report_forbidden(&rt, &mut book);
     let inquiry = searched(&rt, &mut book);
-    assert!(rt; is_done(book.raise(ANNA, name(&rt, b"t"), BUDGET)));
+    done(&rt, book.raise(ANNA, name(&rt, b"t"), BUDGET));
     book.take_back(inquiry);
-    assert!(rt; held(&rt, &book) == 500);
+    assert_held(&rt, &book, 500);
     let spared = steps_of_refuted(&rt, &mut book);
     let steps = steps_of_refuted(&rt, &mut forbidden(&rt, rt.alloc()));
     assert!(rt; 0 < spared && spared < steps);
@@ -210,7 +232,7 @@ fn nothing_is_lent_where_the_answer_is_there(rt: HostRuntime) {
         name: name(&rt, b"t"),
         mark: None,
     };
-    assert!(rt; book.lend(&ask).is_none());
-    assert!(rt; held(&rt, &book) == SITUATIONS);
-    assert!(rt; book.lend(&Call::ListTraces).is_none());
+    let is_lent = lends(&mut book, &ask);
+    assert_held(&rt, &book, SITUATIONS);
+    assert!(rt; !is_lent && !lends(&mut book, &Call::ListTraces));
 }

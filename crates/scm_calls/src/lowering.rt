@@ -2,15 +2,20 @@ use scm_cells::{Cells, Initial, Name, Num, Width};
 use scm_lowering::{lower, read_access};
 use scm_sequences::{Op, Refusal};
 use std::alloc::Global;
+use std::process::Abort;
 use std::test::Fail;
+
+fn add(cells: &mut Cells, name: &str, width: Width) -> Result<(), Refusal> {
+    let name = Name::read(name.as_bytes()).ok_or(Refusal::BadDeclaration)?;
+    cells.add(name, width, Initial::Given(Num::Plain(0)))?;
+    Ok(())
+}
 
 /// Cell 0 is the word `x`, cell 1 the double word `y`.
 fn declared(alloc: Global) -> Result<Cells, Refusal> {
     let mut cells = Cells::new(alloc);
-    for (name, width) in [("x", Width::W), ("y", Width::D)] {
-        let name = Name::read(name.as_bytes()).ok_or(Refusal::BadDeclaration)?;
-        cells.add(name, width, Initial::Given(Num::Plain(0)))?;
-    }
+    add(&mut cells, "x", Width::W)?;
+    add(&mut cells, "y", Width::D)?;
     Ok(cells)
 }
 
@@ -19,7 +24,16 @@ fn outcome(alloc: Global, cells: &Cells, line: &str) -> Result<Op, Refusal> {
     for word in line.split(' ') {
         words.push(word.as_bytes()).map_err(|_| Refusal::NoMemory)?;
     }
-    lower(cells, &read_access(&words)?)
+    lowered(cells, &words)
+}
+
+fn lowered(cells: &Cells, words: &[&[u8]]) -> Result<Op, Refusal> {
+    lower(cells, &read_access(words)?)
+}
+
+fn check(rt: &impl Abort, alloc: Global, cells: &Cells, line: &str, want: Result<Op, Refusal>) {
+    let outcome = outcome(alloc, cells, line);
+    assert!(rt; outcome == want, "{line}");
 }
 
 fn read(cell: u8, value: u64) -> Op {
@@ -58,36 +72,38 @@ fn operations(rt: HostRuntime) -> Result<(), Fail> {
         ),
         ("amominu.w x 1 0x80000000", read_write(0, 2_147_483_648, 1)),
     ] {
-        assert!(rt; outcome(rt.alloc(), &cells, line) == Ok(want), "{line}");
+        check(&rt, rt.alloc(), &cells, line, Ok(want));
     }
     Ok(())
 }
 
+const REFUSALS: [(&str, Refusal); 19] = [
+    ("sw q 4294967296", Refusal::NoSuchCell),
+    ("amoadd.d q 1 0", Refusal::NoSuchCell),
+    ("rw q 0 1", Refusal::NoSuchCell),
+    ("lw y 0", Refusal::WidthMismatch),
+    ("sd x 0", Refusal::WidthMismatch),
+    ("amoadd.d x 4294967296 0", Refusal::WidthMismatch),
+    ("sw x 4294967296", Refusal::ValueOutOfRange),
+    ("amoadd.w x 0 4294967296", Refusal::ValueOutOfRange),
+    ("rw x 0 4294967296", Refusal::ValueOutOfRange),
+    ("lw.aq x 1", Refusal::BadLine),
+    ("LW x 1", Refusal::BadLine),
+    ("sw x ?", Refusal::BadLine),
+    ("sw X 1", Refusal::BadLine),
+    ("lw x", Refusal::BadLine),
+    ("lw x 1 2", Refusal::BadLine),
+    ("rw x 1", Refusal::BadLine),
+    ("rw x 1 2 3", Refusal::BadLine),
+    ("amoswap.w x 1", Refusal::BadLine),
+    ("amoswap.w.aq.rl x 1 0", Refusal::BadLine),
+];
+
 #[test]
 fn refusals(rt: HostRuntime) -> Result<(), Fail> {
     let cells = declared(rt.alloc())?;
-    for (line, want) in [
-        ("sw q 4294967296", Refusal::NoSuchCell),
-        ("amoadd.d q 1 0", Refusal::NoSuchCell),
-        ("rw q 0 1", Refusal::NoSuchCell),
-        ("lw y 0", Refusal::WidthMismatch),
-        ("sd x 0", Refusal::WidthMismatch),
-        ("amoadd.d x 4294967296 0", Refusal::WidthMismatch),
-        ("sw x 4294967296", Refusal::ValueOutOfRange),
-        ("amoadd.w x 0 4294967296", Refusal::ValueOutOfRange),
-        ("rw x 0 4294967296", Refusal::ValueOutOfRange),
-        ("lw.aq x 1", Refusal::BadLine),
-        ("LW x 1", Refusal::BadLine),
-        ("sw x ?", Refusal::BadLine),
-        ("sw X 1", Refusal::BadLine),
-        ("lw x", Refusal::BadLine),
-        ("lw x 1 2", Refusal::BadLine),
-        ("rw x 1", Refusal::BadLine),
-        ("rw x 1 2 3", Refusal::BadLine),
-        ("amoswap.w x 1", Refusal::BadLine),
-        ("amoswap.w.aq.rl x 1 0", Refusal::BadLine),
-    ] {
-        assert!(rt; outcome(rt.alloc(), &cells, line) == Err(want), "{line}");
+    for (line, want) in REFUSALS.iter() {
+        check(&rt, rt.alloc(), &cells, line, Err(*want));
     }
     Ok(())
 }

@@ -1,34 +1,54 @@
 //! What no clause says: that calls succeed.
 use scm_marks::Marks;
 use scm_sequences::{Lengths, MOST_MARKS, Refusal};
-use std::test::Fail;
+use std::process::Abort;
 
-#[test]
-fn returns_to_a_mark(rt: HostRuntime) -> Result<(), Fail> {
-    let mut marks = Marks::new(rt.alloc());
-    for place in 0..3u32 {
-        let lengths = Lengths::new(rt.alloc(), &[place, 7]);
-        assert!(rt; marks.set(lengths)? == u64::from(place));
-    }
-    let second = marks.get(1)?;
-    assert!(rt; second.procs() == 2);
-    assert!(rt; second.get(0) == 1);
-    assert!(rt; marks.count() == 3);
-    marks.back(1);
+/// The lengths are marked under this number.
+fn set(rt: &impl Abort, marks: &mut Marks, lengths: Lengths, number: u64) {
+    assert!(rt; marks.set(lengths) == Ok(number));
+}
+
+fn check_second(rt: &impl Abort, lengths: &Lengths) {
+    assert!(rt; lengths.procs() == 2);
+    assert!(rt; lengths.get(0) == 1);
+}
+
+/// There are the marks 0 and 1.
+fn check_two(rt: &impl Abort, marks: &Marks) {
     assert!(rt; marks.count() == 2);
     assert!(rt; marks.get(1).is_ok());
     assert!(rt; marks.get(2).is_err());
-    Ok(())
 }
 
 #[test]
-fn takes_as_many_marks_as_the_limit(rt: HostRuntime) -> Result<(), Fail> {
+fn returns_to_a_mark(rt: HostRuntime) {
     let mut marks = Marks::new(rt.alloc());
-    for _ in 0..MOST_MARKS {
-        marks.set(Lengths::new(rt.alloc(), &[0]))?;
+    for place in 0..3u32 {
+        set(
+            &rt,
+            &mut marks,
+            Lengths::new(rt.alloc(), &[place, 7]),
+            u64::from(place),
+        );
+    }
+    check_second(&rt, marks.get(1).expect(&rt, "a mark"));
+    assert!(rt; marks.count() == 3);
+    marks.back(1);
+    check_two(&rt, &marks);
+}
+
+#[test]
+fn takes_as_many_marks_as_the_limit(rt: HostRuntime) {
+    let mut marks = Marks::new(rt.alloc());
+    for number in 0..MOST_MARKS {
+        set(
+            &rt,
+            &mut marks,
+            Lengths::new(rt.alloc(), &[0]),
+            number as u64,
+        );
     }
     let lengths = Lengths::new(rt.alloc(), &[0]);
     assert!(rt; marks.set(lengths) == Err(Refusal::TooManyMarks));
     assert!(rt; marks.count() == 64);
-    Ok(())
 }

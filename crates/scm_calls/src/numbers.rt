@@ -1,8 +1,8 @@
 //! Words that are numbers, and words that are none.
 use scm_cells::{Num, Width, read_count, read_num, read_value};
 use scm_sequences::Refusal;
+use std::alloc::Global;
 use std::process::Abort;
-use std::test::Fail;
 
 /// Checks the value of a word in a cell of 32 bits and in one of 64, `None` where it is out of range.
 fn check_values(rt: &impl Abort, word: &str, in_word: Option<u64>, in_double: Option<u64>) {
@@ -81,9 +81,14 @@ fn words_that_are_no_numbers(rt: HostRuntime) {
         "", "+1", "0X1", "0x", "-0x1", "1_000", "?", "-", "12a", "0xg", " 1",
     ];
     for word in words {
-        assert!(rt; read_num(word.as_bytes()) == None, "{word:?}");
-        let value = read_value(Width::D, word.as_bytes());
-        assert!(rt; value == Err(Refusal::BadLine), "{word:?}");
+        let (number, value) = (
+            read_num(word.as_bytes()),
+            read_value(Width::D, word.as_bytes()),
+        );
+        assert!(rt;
+            number == None && value == Err(Refusal::BadLine),
+            "{word:?}"
+        );
     }
 }
 
@@ -99,14 +104,19 @@ fn counts(rt: HostRuntime) {
     }
 }
 
+/// So many digits, all of which are this one.
+fn digits(rt: &impl Abort, alloc: Global, digit: u8) -> Vec<u8> {
+    vec![in alloc; digit; 5000].expect(rt, "memory")
+}
+
 #[test]
-fn words_of_thousands_of_digits(rt: HostRuntime) -> Result<(), Fail> {
-    let nines = vec![in rt.alloc(); b'9'; 5000]?;
+fn words_of_thousands_of_digits(rt: HostRuntime) {
+    let nines = digits(&rt, rt.alloc(), b'9');
     assert!(rt; read_num(&nines) == Some(Num::Beyond));
     assert!(rt; read_count(&nines) == Some(u64::MAX));
-    let mut zeros = vec![in rt.alloc(); b'0'; 5000]?;
-    zeros.push(b'7')?;
+    drop(nines);
+    let mut zeros = digits(&rt, rt.alloc(), b'0');
+    zeros.push(b'7').expect(&rt, "memory");
     assert!(rt; read_num(&zeros) == Some(Num::Plain(7)));
     assert!(rt; read_count(&zeros) == Some(7));
-    Ok(())
 }

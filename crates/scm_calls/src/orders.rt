@@ -1,9 +1,9 @@
 //! Lists of derived orders, judged.
-use crate::traces::{read, swap, write};
+use crate::traces::{read, sequences_of, swap, write};
 use scm_orders::{Edge, Place, Reason, orders_refute};
-use scm_sequences::{Lengths, Op, Sequences};
+use scm_sequences::{Lengths, MOST_PROCESSES, Op};
 use std::alloc::Global;
-use std::test::Fail;
+use std::process::Abort;
 
 // An edge from one place to another, each a process and a place there.
 fn edge(from: (u8, u32), to: (u8, u32), reason: Reason) -> Edge {
@@ -48,24 +48,16 @@ fn before_next(from: (u8, u32), to: (u8, u32), source: u32, before: u32) -> Edge
     edge(from, to, Reason::BeforeNext { source, before })
 }
 
-// The sequences of four processes with these operations.
-fn sequences(alloc: Global, operations: &[(usize, Op)]) -> Result<Sequences, Fail> {
-    let mut sequences = Sequences::new(alloc, 4)?;
-    for (p, op) in operations {
-        sequences.push(*p, *op)?;
-    }
-    Ok(sequences)
-}
-
-// Whether the edges refute the trace of these operations, on cells that hold this at first.
+// Whether the edges refute the trace of these operations of four processes, on cells that hold this at first.
 fn refuted(
+    rt: &impl Abort,
     alloc: Global,
     initials: &[Option<u64>],
     operations: &[(usize, Op)],
     edges: &[Edge],
-) -> Result<bool, Fail> {
-    let sequences = sequences(alloc, operations)?;
-    Ok(orders_refute(initials, &sequences, &sequences.lengths(), edges))
+) -> bool {
+    let sequences = sequences_of(rt, alloc, 4, operations);
+    orders_refute(initials, &sequences, &sequences.lengths(), edges)
 }
 
 // Each of two processes writes its own cell and then reads 0 from the other's.
@@ -91,11 +83,11 @@ fn store_buffering_cycle() -> [Edge; 7] {
 }
 
 #[test]
-fn cycles_of_forbidden_outcomes_refute(rt: HostRuntime) -> Result<(), Fail> {
+fn cycles_of_forbidden_outcomes_refute(rt: HostRuntime) {
     let alloc = rt.alloc();
     let zeros = [Some(0), Some(0)];
     let buffering = store_buffering_cycle();
-    assert!(rt; refuted(alloc, &zeros, &store_buffering(), &buffering)?);
+    assert!(rt; refuted(&rt, alloc, &zeros, &store_buffering(), &buffering));
     let passing = [
         (0, write(0, 1)),
         (0, write(1, 1)),
@@ -111,7 +103,7 @@ fn cycles_of_forbidden_outcomes_refute(rt: HostRuntime) -> Result<(), Fail> {
         joined((0, 0), (1, 1), 4, 2),
         joined((0, 0), (0, 0), 5, 3),
     ];
-    assert!(rt; refuted(alloc, &zeros, &passing, &passing_cycle)?);
+    assert!(rt; refuted(&rt, alloc, &zeros, &passing, &passing_cycle));
     let loads = [
         (0, read(0, 1)),
         (0, write(1, 1)),
@@ -127,7 +119,7 @@ fn cycles_of_forbidden_outcomes_refute(rt: HostRuntime) -> Result<(), Fail> {
         joined((1, 1), (1, 0), 4, 2),
         joined((1, 1), (1, 1), 5, 3),
     ];
-    assert!(rt; refuted(alloc, &zeros, &loads, &loads_cycle)?);
+    assert!(rt; refuted(&rt, alloc, &zeros, &loads, &loads_cycle));
     let coherence = [
         (0, write(0, 1)),
         (0, write(0, 2)),
@@ -143,24 +135,23 @@ fn cycles_of_forbidden_outcomes_refute(rt: HostRuntime) -> Result<(), Fail> {
         program(0, 0, 1),
         joined((0, 0), (0, 0), 5, 4),
     ];
-    assert!(rt; refuted(alloc, &zeros, &coherence, &coherence_cycle)?);
-    Ok(())
+    assert!(rt; refuted(&rt, alloc, &zeros, &coherence, &coherence_cycle));
 }
 
 #[test]
-fn what_no_write_gives_is_refuted(rt: HostRuntime) -> Result<(), Fail> {
+fn what_no_write_gives_is_refuted(rt: HostRuntime) {
     let alloc = rt.alloc();
     let zeros = [Some(0), Some(0)];
     let lost = [source((0, 0), (0, 0))];
-    assert!(rt; refuted(alloc, &zeros, &[(0, read(0, 7))], &lost)?);
-    assert!(rt; !refuted(alloc, &zeros, &[(0, read(0, 0))], &lost)?);
+    assert!(rt; refuted(&rt, alloc, &zeros, &[(0, read(0, 7))], &lost));
+    assert!(rt; !refuted(&rt, alloc, &zeros, &[(0, read(0, 0))], &lost));
     let twice = [(0, swap(0, 0, 1)), (1, swap(0, 0, 2))];
     let twice_cycle = [
         initial((0, 0), (1, 0)),
         initial((1, 0), (0, 0)),
         joined((0, 0), (0, 0), 0, 1),
     ];
-    assert!(rt; refuted(alloc, &zeros, &twice, &twice_cycle)?);
+    assert!(rt; refuted(&rt, alloc, &zeros, &twice, &twice_cycle));
     let missed = [(0, write(0, 5)), (1, swap(0, 5, 6)), (2, swap(0, 5, 7))];
     let missed_cycle = [
         source((0, 0), (1, 0)),
@@ -169,7 +160,7 @@ fn what_no_write_gives_is_refuted(rt: HostRuntime) -> Result<(), Fail> {
         before_next((2, 0), (1, 0), 1, 0),
         joined((1, 0), (1, 0), 2, 3),
     ];
-    assert!(rt; refuted(alloc, &zeros, &missed, &missed_cycle)?);
+    assert!(rt; refuted(&rt, alloc, &zeros, &missed, &missed_cycle));
     let overwritten = [
         (0, write(0, 1)),
         (0, write(0, 2)),
@@ -187,12 +178,11 @@ fn what_no_write_gives_is_refuted(rt: HostRuntime) -> Result<(), Fail> {
         hidden((0, 0), (1, 1), 5, 4),
         source((1, 1), (1, 1)),
     ];
-    assert!(rt; refuted(alloc, &zeros, &overwritten, &overwritten_cycle)?);
-    Ok(())
+    assert!(rt; refuted(&rt, alloc, &zeros, &overwritten, &overwritten_cycle));
 }
 
 #[test]
-fn open_cells_give_one_value_before_any_write(rt: HostRuntime) -> Result<(), Fail> {
+fn open_cells_give_one_value_before_any_write(rt: HostRuntime) {
     let alloc = rt.alloc();
     let initials = [None, Some(0)];
     let two_values = [(0, read(0, 1)), (1, read(0, 2))];
@@ -201,9 +191,9 @@ fn open_cells_give_one_value_before_any_write(rt: HostRuntime) -> Result<(), Fai
         initial((1, 0), (0, 0)),
         joined((0, 0), (0, 0), 0, 1),
     ];
-    assert!(rt; refuted(alloc, &initials, &two_values, &two_values_cycle)?);
+    assert!(rt; refuted(&rt, alloc, &initials, &two_values, &two_values_cycle));
     let one_value = [(0, read(0, 1)), (1, read(0, 1))];
-    assert!(rt; !refuted(alloc, &initials, &one_value, &two_values_cycle)?);
+    assert!(rt; !refuted(&rt, alloc, &initials, &one_value, &two_values_cycle));
     let fixed = [
         (0, read(0, 1)),
         (1, read(1, 1)),
@@ -221,29 +211,28 @@ fn open_cells_give_one_value_before_any_write(rt: HostRuntime) -> Result<(), Fai
         joined((1, 1), (1, 0), 5, 3),
         joined((1, 1), (1, 1), 6, 4),
     ];
-    assert!(rt; refuted(alloc, &initials, &fixed, &cycle)?);
+    assert!(rt; refuted(&rt, alloc, &initials, &fixed, &cycle));
     cycle[0] = program(1, 0, 1);
-    assert!(rt; !refuted(alloc, &initials, &fixed, &cycle)?);
-    Ok(())
+    assert!(rt; !refuted(&rt, alloc, &initials, &fixed, &cycle));
 }
 
 #[test]
-fn foreign_lists_are_judged(rt: HostRuntime) -> Result<(), Fail> {
+fn foreign_lists_are_judged(rt: HostRuntime) {
     let alloc = rt.alloc();
     let zeros = [Some(0), Some(0)];
     let cycle = store_buffering_cycle();
     let operations = store_buffering();
-    assert!(rt; !refuted(alloc, &zeros, &operations, &[])?);
-    assert!(rt; !refuted(alloc, &zeros, &operations, &cycle[..6])?);
-    assert!(rt; !refuted(alloc, &zeros, &operations, &cycle[1..])?);
+    assert!(rt; !refuted(&rt, alloc, &zeros, &operations, &[]));
+    assert!(rt; !refuted(&rt, alloc, &zeros, &operations, &cycle[..6]));
+    assert!(rt; !refuted(&rt, alloc, &zeros, &operations, &cycle[1..]));
     let mut exchanged = cycle;
     exchanged.swap(4, 5);
-    assert!(rt; !refuted(alloc, &zeros, &operations, &exchanged)?);
+    assert!(rt; !refuted(&rt, alloc, &zeros, &operations, &exchanged));
     let mut later = cycle;
     later[4] = joined((0, 0), (1, 0), 0, 6);
-    assert!(rt; !refuted(alloc, &zeros, &operations, &later)?);
+    assert!(rt; !refuted(&rt, alloc, &zeros, &operations, &later));
     let itself = [joined((0, 0), (0, 0), 0, 0)];
-    assert!(rt; !refuted(alloc, &zeros, &operations, &itself)?);
+    assert!(rt; !refuted(&rt, alloc, &zeros, &operations, &itself));
     let two_writes = [
         (0, write(0, 1)),
         (1, write(0, 1)),
@@ -251,30 +240,38 @@ fn foreign_lists_are_judged(rt: HostRuntime) -> Result<(), Fail> {
         (2, write(0, 2)),
     ];
     let guessed = [source((0, 0), (2, 0)), source((0, 0), (0, 0))];
-    assert!(rt; !refuted(alloc, &zeros, &two_writes, &guessed)?);
-    assert!(rt; !refuted(alloc, &zeros, &[(0, write(0, 1))], &[program(0, 0, 0)])?);
+    assert!(rt; !refuted(&rt, alloc, &zeros, &two_writes, &guessed));
+    assert!(rt; !refuted(&rt, alloc, &zeros, &[(0, write(0, 1))], &[program(0, 0, 0)]));
     assert!(rt;
         !refuted(
+            &rt,
             alloc,
             &zeros,
             &[(0, read(0, 0))],
             &[initial((0, 0), (0, 0))]
-        )?
+        )
     );
-    Ok(())
+}
+
+// Whether the cycle refutes store buffering, cut to these lengths.
+fn refuted_within(rt: &impl Abort, alloc: Global, lengths: &[u32]) -> bool {
+    let sequences = sequences_of(rt, alloc, 4, &store_buffering());
+    assert!(rt; lengths.len() <= MOST_PROCESSES);
+    let lengths = Lengths::new(alloc, lengths);
+    orders_refute(
+        &[Some(0), Some(0)],
+        &sequences,
+        &lengths,
+        &store_buffering_cycle(),
+    )
 }
 
 #[test]
-fn edges_beyond_the_lengths_refute_nothing(rt: HostRuntime) -> Result<(), Fail> {
-    let sequences = sequences(rt.alloc(), &store_buffering())?;
-    let zeros = [Some(0), Some(0)];
-    let cycle = store_buffering_cycle();
-    let whole = sequences.lengths();
-    assert!(rt; orders_refute(&zeros, &sequences, &whole, &cycle));
-    let cut = Lengths::new(rt.alloc(), &[2, 1, 0, 0]);
-    assert!(rt; !orders_refute(&zeros, &sequences, &cut, &cycle));
-    let none = Lengths::new(rt.alloc(), &[]);
-    assert!(rt; !orders_refute(&zeros, &sequences, &none, &cycle));
-    assert!(rt; !orders_refute(&[], &sequences, &whole, &[source((0, 1), (0, 1))]));
-    Ok(())
+fn edges_beyond_the_lengths_refute_nothing(rt: HostRuntime) {
+    let alloc = rt.alloc();
+    assert!(rt; refuted_within(&rt, alloc, &[2, 2, 0, 0]));
+    assert!(rt; !refuted_within(&rt, alloc, &[2, 1, 0, 0]));
+    assert!(rt; !refuted_within(&rt, alloc, &[]));
+    let beyond = [source((0, 1), (0, 1))];
+    assert!(rt; !refuted(&rt, alloc, &[], &store_buffering(), &beyond));
 }

@@ -39,8 +39,19 @@ pub(crate) fn store(rt: &impl Abort, word: &[u8], value: u64) -> Access {
     }
 }
 
-pub(crate) fn is_done(reply: Reply) -> bool {
-    matches!(reply, Reply::Done)
+/// The call is done.
+pub(crate) fn done(rt: &impl Abort, reply: Reply) {
+    assert!(rt; matches!(reply, Reply::Done));
+}
+
+/// Mark 0 is set.
+pub(crate) fn marked(rt: &impl Abort, reply: Reply) {
+    assert!(rt; matches!(reply, Reply::MarkSet(0)));
+}
+
+/// There is no schedule.
+pub(crate) fn refuted(rt: &impl Abort, reply: Reply) {
+    assert!(rt; matches!(reply, Reply::Inconsistent));
 }
 
 pub(crate) fn add_event(rt: &impl Abort, events: &mut Vec<Event>, event: Event) {

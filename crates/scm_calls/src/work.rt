@@ -1,10 +1,10 @@
 //! Sets that are lent for work, and what is taken back of it.
 
 use crate::lending::{
-    SITUATIONS, STORES, forbidden, held, is_consistent, open_forbidden, report_forbidden,
-    report_stores, steps_of_refuted,
+    SITUATIONS, STORES, assert_consistent, assert_held, assert_spared, forbidden, open_forbidden,
+    report_forbidden, report_stores,
 };
-use crate::words::{ANNA, is_done, name, store};
+use crate::words::{ANNA, done, name, store};
 use scm_book::{Book, Call, Inquiry};
 use std::alloc::Global;
 use std::process::Abort;
@@ -56,7 +56,7 @@ fn times_of_work(inquiry: &mut Inquiry) -> usize {
 fn stays_lent(rt: &impl Abort, book: &mut Book) {
     assert!(rt; !lends(book) && !book.may_want_work());
     let t = name(rt, b"t");
-    assert!(rt; is_done(book.report(ANNA, t, 0, &store(rt, b"x", STORES))));
+    done(rt, book.report(ANNA, t, 0, &store(rt, b"x", STORES)));
     assert!(rt; !lends(book) && !book.may_want_work() && awaits(rt, book));
 }
 
@@ -65,7 +65,7 @@ fn forbidden_since_a_mark(rt: &impl Abort, alloc: Global) -> Book {
     let mut book = Book::new(alloc);
     open_forbidden(rt, &mut book);
     report_stores(rt, &mut book, 1);
-    assert!(rt; is_consistent(rt, &mut book));
+    assert_consistent(rt, &mut book);
     let _mark = book.mark(ANNA, name(rt, b"t"));
     report_forbidden(rt, &mut book);
     book
@@ -79,39 +79,69 @@ fn awaits_at_mark(rt: &impl Abort, book: &Book) -> bool {
     })
 }
 
+/// Work is done, and some is left.
+fn work_once(rt: &impl Abort, inquiry: &mut Inquiry) {
+    let is_left = inquiry.work(AT_ONCE);
+    assert!(rt; is_left);
+}
+
+fn work_off(rt: &impl Abort, inquiry: &mut Inquiry) {
+    let times = times_of_work(inquiry);
+    assert!(rt; times == 4);
+}
+
+/// No set is lent for work any more.
+fn assert_worked_off(rt: &impl Abort, book: &mut Book) {
+    assert!(rt; !is_ever_lent(book) && !book.may_want_work());
+}
+
 #[test]
 fn work_spares_the_question(rt: HostRuntime) {
     let mut book = forbidden(&rt, rt.alloc());
     let mut inquiry = lent(&rt, &mut book);
-    assert!(rt; times_of_work(&mut inquiry) == 4);
-    assert!(rt; held(&rt, &book) == 1);
+    work_off(&rt, &mut inquiry);
+    assert_held(&rt, &book, 1);
     book.take_back(inquiry);
-    assert!(rt; held(&rt, &book) == SITUATIONS);
-    assert!(rt; steps_of_refuted(&rt, &mut book) == 0);
-    assert!(rt; !is_ever_lent(&mut book) && !book.may_want_work());
+    assert_held(&rt, &book, SITUATIONS);
+    assert_spared(&rt, &mut book);
+    assert_worked_off(&rt, &mut book);
+}
+
+/// A set is lent, worked on once and given back.
+fn lend_once(rt: &impl Abort, book: &mut Book) {
+    let mut inquiry = lent(rt, book);
+    work_once(rt, &mut inquiry);
+    book.take_back(inquiry);
 }
 
 #[test]
 fn work_that_is_given_back_is_gone_on_with(rt: HostRuntime) {
     let mut book = forbidden(&rt, rt.alloc());
-    let mut inquiry = lent(&rt, &mut book);
-    assert!(rt; inquiry.work(AT_ONCE));
-    book.take_back(inquiry);
-    assert!(rt; held(&rt, &book) == AT_ONCE + 1 && book.may_want_work());
-    let mut again = lent(&rt, &mut book);
-    assert!(rt; again.work(AT_ONCE));
-    book.take_back(again);
-    assert!(rt; held(&rt, &book) == 2 * AT_ONCE + 1);
+    lend_once(&rt, &mut book);
+    assert_held(&rt, &book, AT_ONCE + 1);
+    assert!(rt; book.may_want_work());
+    lend_once(&rt, &mut book);
+    assert_held(&rt, &book, 2 * AT_ONCE + 1);
+}
+
+/// Work may be wanted, and no question waits for a set.
+fn assert_wants_work(rt: &impl Abort, book: &Book) {
+    assert!(rt; book.may_want_work() && !awaits(rt, book));
 }
 
 #[test]
 fn a_set_is_lent_once(rt: HostRuntime) {
     let mut book = forbidden(&rt, rt.alloc());
-    assert!(rt; book.may_want_work() && !awaits(&rt, &book));
+    assert_wants_work(&rt, &book);
     let inquiry = lent(&rt, &mut book);
     stays_lent(&rt, &mut book);
     book.take_back(inquiry);
-    assert!(rt; book.may_want_work() && !awaits(&rt, &book));
+    assert_wants_work(&rt, &book);
+}
+
+/// A set is lent, and lost. Then the question waits for it.
+fn lose(rt: &impl Abort, book: &mut Book) {
+    assert!(rt; lends(book) && awaits(rt, book));
 }
 
 #[test]
@@ -122,12 +152,12 @@ fn what_is_explained_wants_no_work(rt: HostRuntime) {
     assert!(rt; !is_ever_lent(&mut book));
     report_forbidden(&rt, &mut book);
     assert!(rt; book.may_want_work());
-    assert!(rt; lends(&mut book) && awaits(&rt, &book));
+    lose(&rt, &mut book);
 }
 
 #[test]
 fn a_question_that_is_explained_awaits_nothing(rt: HostRuntime) {
     let mut book = forbidden_since_a_mark(&rt, rt.alloc());
-    assert!(rt; lends(&mut book));
-    assert!(rt; awaits(&rt, &book) && !awaits_at_mark(&rt, &book));
+    lose(&rt, &mut book);
+    assert!(rt; !awaits_at_mark(&rt, &book));
 }

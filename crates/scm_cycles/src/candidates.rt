@@ -57,12 +57,16 @@ impl Candidates {
             firsts: Vec::new(alloc),
             seen: Vec::new(alloc),
         };
-        for x in 0..numbering.len()? {
-            candidates.add(numbering, values, &writers, x)?;
-        }
-        let end = u32::try_from(candidates.list.len()).ok()?;
-        candidates.starts.push(end).ok()?;
+        candidates.add_all(numbering, values, &writers)?;
         Some(candidates)
+    }
+
+    fn add_all(&mut self, numbering: &Numbering, values: &Values, writers: &Writers) -> Option<()> {
+        for x in 0..numbering.len()? {
+            self.add(numbering, values, writers, x)?;
+        }
+        let end = u32::try_from(self.list.len()).ok()?;
+        self.starts.push(end).ok()
     }
 
     fn add(
@@ -78,14 +82,19 @@ impl Candidates {
         let Some(value) = values.found(x) else {
             return self.firsts.push(NotFirst::Given).ok();
         };
-        for write in writers.of(value)? {
-            self.add_write(x, *write)?;
-        }
+        self.add_writes(x, writers.of(value)?)?;
         let first = match values.first(numbering.cell(x)?).flatten() {
             Some(first) if first != value => NotFirst::Given,
             _ => NotFirst::No,
         };
         self.firsts.push(first).ok()
+    }
+
+    fn add_writes(&mut self, x: u32, writes: &[u32]) -> Option<()> {
+        for write in writes {
+            self.add_write(x, *write)?;
+        }
+        Some(())
     }
 
     fn add_write(&mut self, x: u32, write: u32) -> Option<()> {

@@ -20,12 +20,17 @@ pub fn find_cycle(
     sequences: &Sequences,
     lengths: &Lengths,
 ) -> Option<Vec<Edge>> {
+    let fuel = fuel_for(lengths);
+    let mut search = Search::new(alloc, initials, sequences, lengths, fuel)?;
+    let closing = search.run()?;
+    gather(alloc, &search, closing)
+}
+
+fn fuel_for(lengths: &Lengths) -> u64 {
     let mut fuel = LEAST_FUEL;
     for p in 0..lengths.procs() {
         let share = u64::from(lengths.get(p)).saturating_mul(FUEL);
         fuel = fuel.saturating_add(share);
     }
-    let mut search = Search::new(alloc, initials, sequences, lengths, fuel)?;
-    let closing = search.run()?;
-    gather(alloc, &search, closing)
+    fuel
 }

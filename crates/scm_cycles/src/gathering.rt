@@ -32,20 +32,25 @@ pub(crate) fn gather(alloc: Global, search: &Search, closing: u32) -> Option<Vec
         line_of: vec![in alloc; None; count as usize].ok()?,
         lines: Lines::new(alloc),
     };
-    gathering.mark(closing)?;
-    let last = search.drawn.get(closing)?;
-    if last.from != last.to {
-        gathering.mark_path(search, last.to, last.from, closing)?;
-    }
-    gathering.mark_all(search, closing)?;
-    gathering.write_all(search, closing)?;
-    if last.from != last.to {
-        gathering.close(search, closing)?;
-    }
+    gathering.gather(search, closing)?;
     Some(gathering.lines.edges)
 }
 
 impl Gathering {
+    fn gather(&mut self, search: &Search, closing: u32) -> Option<()> {
+        self.mark(closing)?;
+        let last = search.drawn.get(closing)?;
+        if last.from != last.to {
+            self.mark_path(search, last.to, last.from, closing)?;
+        }
+        self.mark_all(search, closing)?;
+        self.write_all(search, closing)?;
+        if last.from != last.to {
+            self.close(search, closing)?;
+        }
+        Some(())
+    }
+
     fn mark(&mut self, id: u32) -> Option<()> {
         *self.is_needed.get_mut(id as usize)? = true;
         Some(())
@@ -75,15 +80,17 @@ impl Gathering {
             Why::Source | Why::Initial => self.mark_first(search, id)?,
         }
         for need in &self.needs(search, id)? {
-            match need.by {
-                Some(middle) => {
-                    self.mark_path(search, need.from, middle, id)?;
-                    self.mark_path(search, middle, need.to, id)?;
-                }
-                None => self.mark_path(search, need.from, need.to, id)?,
-            }
+            self.mark_need(search, *need, id)?;
         }
         Some(())
+    }
+
+    fn mark_need(&mut self, search: &Search, need: Need, limit: u32) -> Option<()> {
+        let Some(middle) = need.by else {
+            return self.mark_path(search, need.from, need.to, limit);
+        };
+        self.mark_path(search, need.from, middle, limit)?;
+        self.mark_path(search, middle, need.to, limit)
     }
 
     // Marks the drawn order that rules first contents out, where one does.
@@ -99,12 +106,17 @@ impl Gathering {
 
     // The orders that a drawn one needs beside drawn ones.
     fn needs(&self, search: &Search, id: u32) -> Option<Vec<Need>> {
-        let drawn = search.drawn.get(id)?;
         let mut needs = Vec::new(self.alloc);
+        self.add_needs(search, &mut needs, id)?;
+        Some(needs)
+    }
+
+    fn add_needs(&self, search: &Search, needs: &mut Vec<Need>, id: u32) -> Option<()> {
+        let drawn = search.drawn.get(id)?;
         let by = None;
         match drawn.why {
-            Why::Source => self.add_candidates(search, &mut needs, drawn.to, Some(drawn.from))?,
-            Why::Initial => self.add_candidates(search, &mut needs, drawn.from, None)?,
+            Why::Source => self.add_candidates(search, needs, drawn.to, Some(drawn.from))?,
+            Why::Initial => self.add_candidates(search, needs, drawn.from, None)?,
             Why::After { source } => {
                 let (from, to) = (drawn.from, search.drawn.get(source)?.to);
                 needs.push(Need { from, to, by }).ok()?;
@@ -114,7 +126,7 @@ impl Gathering {
                 needs.push(Need { from, to, by }).ok()?;
             }
         }
-        Some(needs)
+        Some(())
     }
 
     // What rules out the candidates of a read, but its source.
@@ -173,12 +185,8 @@ impl Gathering {
 
     fn write(&mut self, search: &Search, id: u32) -> Option<()> {
         let drawn = search.drawn.get(id)?;
-        let mut premise = 0;
-        for need in &self.needs(search, id)? {
-            premise = self.write_need(search, *need, id)?;
-        }
+        let before = self.write_needs(search, id)?;
         let (from, to) = (search.place(drawn.from)?, search.place(drawn.to)?);
-        let before = premise;
         let reason = match drawn.why {
             Why::Source => Reason::Source,
             Why::Initial => Reason::Initial,
@@ -194,6 +202,15 @@ impl Gathering {
         let line = self.lines.add(from, to, reason)?;
         *self.line_of.get_mut(id as usize)? = Some(line);
         Some(())
+    }
+
+    // Writes what a drawn order needs. The last line of that, or 0 where it needs nothing.
+    fn write_needs(&mut self, search: &Search, id: u32) -> Option<u32> {
+        let mut last = 0;
+        for need in &self.needs(search, id)? {
+            last = self.write_need(search, *need, id)?;
+        }
+        Some(last)
     }
 
     fn write_need(&mut self, search: &Search, need: Need, limit: u32) -> Option<u32> {
@@ -216,9 +233,14 @@ impl Gathering {
         if let Some(line) = self.lines.find(start, end) {
             return Some(line);
         }
+        let path = search.path(self.alloc, from, to, limit)?;
+        self.write_along(search, &path, from, to)
+    }
+
+    fn write_along(&mut self, search: &Search, path: &[u32], from: u32, to: u32) -> Option<u32> {
         let mut at = from;
         let mut line = None;
-        for id in &search.path(self.alloc, from, to, limit)? {
+        for id in path {
             let drawn = search.drawn.get(*id)?;
             line = self.go(search, line, at, drawn.from)?;
             let second = self.line(*id)?;

@@ -29,6 +29,15 @@ struct Reached {
 }
 
 impl Reached {
+    // Nothing yet, of so many processes.
+    fn new(alloc: Global, procs: u32) -> Option<Reached> {
+        Some(Reached {
+            lows: vec![in alloc; None; procs as usize].ok()?,
+            latest: vec![in alloc; None; procs as usize].ok()?,
+            arrivals: Vec::new(alloc),
+        })
+    }
+
     // Whether this place of a process is reached.
     fn has(&self, process: u32, at: u32) -> Option<bool> {
         Some(match *self.lows.get(process as usize)? {
@@ -47,6 +56,19 @@ impl Reached {
         *self.latest.get_mut(step.to as usize)? = Some(number);
         Some(number)
     }
+
+    // Follows those of these orders, of which there is one, that still lead farther.
+    fn arrive_all(&mut self, steps: &[Step]) -> Option<()> {
+        if steps.is_empty() {
+            return None;
+        }
+        for step in steps {
+            if !self.has(step.to, step.at)? {
+                let _ = self.arrive(*step)?;
+            }
+        }
+        Some(())
+    }
 }
 
 impl Search {
@@ -58,15 +80,24 @@ impl Search {
         if process == target && at < end {
             return Some(Vec::new(alloc));
         }
-        let mut reached = Reached {
-            lows: vec![in alloc; None; self.procs as usize].ok()?,
-            latest: vec![in alloc; None; self.procs as usize].ok()?,
-            arrivals: Vec::new(alloc),
-        };
+        let mut reached = Reached::new(alloc, self.procs)?;
         *reached.lows.get_mut(process as usize)? = Some(at);
+        let last = self.reach(alloc, &mut reached, target, end, limit)?;
+        self.way(alloc, &reached, last)
+    }
+
+    // Follows drawn orders until the end is reached. The arrival there.
+    fn reach(
+        &self,
+        alloc: Global,
+        reached: &mut Reached,
+        target: u32,
+        end: u32,
+        limit: u32,
+    ) -> Option<u32> {
         for _ in 0..limit {
-            if let Some(last) = self.widen(alloc, &mut reached, target, end, limit)? {
-                return self.way(alloc, &reached, last);
+            if let Some(last) = self.widen(alloc, reached, target, end, limit)? {
+                return Some(last);
             }
         }
         None
@@ -81,7 +112,23 @@ impl Search {
         end: u32,
         limit: u32,
     ) -> Option<Option<u32>> {
-        let mut steps: Vec<Step> = Vec::new(alloc);
+        let mut steps = Vec::new(alloc);
+        let last = self.look(reached, &mut steps, target, end, limit)?;
+        if last.is_none() {
+            reached.arrive_all(&steps)?;
+        }
+        Some(last)
+    }
+
+    // Looks for drawn orders that lead farther, up to one that leads to the end. The arrival there.
+    fn look(
+        &self,
+        reached: &mut Reached,
+        steps: &mut Vec<Step>,
+        target: u32,
+        end: u32,
+        limit: u32,
+    ) -> Option<Option<u32>> {
         for (id, drawn) in self.drawn.first(limit).iter().enumerate() {
             let step = self.step(u32::try_from(id).ok()?, *drawn)?;
             if !reached.has(step.from, step.left)? {
@@ -92,14 +139,6 @@ impl Search {
             }
             if !reached.has(step.to, step.at)? {
                 steps.push(step).ok()?;
-            }
-        }
-        if steps.is_empty() {
-            return None;
-        }
-        for step in &steps {
-            if !reached.has(step.to, step.at)? {
-                let _ = reached.arrive(*step)?;
             }
         }
         Some(None)

@@ -47,15 +47,7 @@ impl Search {
 
     // Settles what the read sees, where one candidate is left, and closes a cycle where none is.
     fn look_for_source(&mut self, read: u32, cell: u32) -> Option<()> {
-        let (start, end) = self.candidates.range(read)?;
-        self.burn(end.checked_sub(start)?)?;
-        let (mut left, mut source) = (0u32, read);
-        for place in start..end {
-            if self.is_left(read, cell, place)? {
-                left = left.checked_add(1)?;
-                source = self.candidates.get(place)?.write;
-            }
-        }
+        let (left, source) = self.count_left(read, cell)?;
         let is_first_left = self.is_first_left(read, cell)?;
         if left == 0 && is_first_left {
             self.candidates.settle(read, Seen::First)?;
@@ -65,6 +57,20 @@ impl Search {
             self.candidates.settle(read, Seen::Write(id))?;
         }
         Some(())
+    }
+
+    // How many candidates are left, and the last of them, or the read itself where none is.
+    fn count_left(&mut self, read: u32, cell: u32) -> Option<(u32, u32)> {
+        let (start, end) = self.candidates.range(read)?;
+        self.burn(end.checked_sub(start)?)?;
+        let (mut left, mut source) = (0u32, read);
+        for place in start..end {
+            if self.is_left(read, cell, place)? {
+                left = left.checked_add(1)?;
+                source = self.candidates.get(place)?.write;
+            }
+        }
+        Some((left, source))
     }
 
     // Whether the read may see the candidate at this place.
@@ -125,13 +131,7 @@ impl Search {
     // What sees first contents comes before all writes of the cell, and before what read another value of it.
     fn draw_initial(&mut self, read: u32, cell: u32) -> Option<()> {
         for process in 0..self.procs {
-            let Some(at) = self.writes.of(process, cell)?.first().copied() else {
-                continue;
-            };
-            let write = self.numbering.number(process, at)?;
-            if write != read && !self.is_before(read, write)? {
-                self.draw(read, write, Why::Initial)?;
-            }
+            self.draw_initial_write(read, cell, process)?;
             if self.closing.is_some() {
                 return Some(());
             }
@@ -139,14 +139,22 @@ impl Search {
         self.draw_initial_others(read)
     }
 
+    // It comes before the first write of this process, if there is one.
+    fn draw_initial_write(&mut self, read: u32, cell: u32, process: u32) -> Option<()> {
+        let Some(at) = self.writes.of(process, cell)?.first().copied() else {
+            return Some(());
+        };
+        let write = self.numbering.number(process, at)?;
+        if write != read && !self.is_before(read, write)? {
+            self.draw(read, write, Why::Initial)?;
+        }
+        Some(())
+    }
+
     fn draw_initial_others(&mut self, read: u32) -> Option<()> {
         let (cell, value) = (self.numbering.cell(read)?, self.values.found(read)?);
         for other in 0..self.ops {
-            let Some(found) = self.values.found(other) else {
-                continue;
-            };
-            let is_of_cell = self.numbering.cell(other)? == cell;
-            if !is_of_cell || found == value || !self.may_be_first(other)? {
+            if !self.is_other_first(other, cell, value)? {
                 continue;
             }
             let id = self.draw(read, other, Why::Initial)?;
@@ -156,6 +164,15 @@ impl Search {
             }
         }
         Some(())
+    }
+
+    // Whether this operation read another value of the cell, and may have seen first contents.
+    fn is_other_first(&self, other: u32, cell: u32, value: u32) -> Option<bool> {
+        let Some(found) = self.values.found(other) else {
+            return Some(false);
+        };
+        let is_of_cell = self.numbering.cell(other)? == cell;
+        Some(is_of_cell && found != value && self.may_be_first(other)?)
     }
 
     // Other writes of the cell that come before the read come before its source.
@@ -200,6 +217,22 @@ impl Search {
         read: u32,
     ) -> Option<Option<u32>> {
         let list = self.writes.of(process, cell)?;
+        let place = self.first_place_after(list, process, write)?;
+        let Some(at) = list.get(place) else {
+            return Some(None);
+        };
+        let next = self.numbering.number(process, *at)?;
+        if next == read {
+            let Some(at) = list.get(place.saturating_add(1)) else {
+                return Some(None);
+            };
+            return Some(self.numbering.number(process, *at));
+        }
+        Some(Some(next))
+    }
+
+    // The place, in this list of writes of a process, of the first that is known to come after this write.
+    fn first_place_after(&self, list: &[u32], process: u32, write: u32) -> Option<usize> {
         let (mut low, mut high) = (0, list.len());
         for _ in 0..list.len() {
             if low >= high {
@@ -213,16 +246,6 @@ impl Search {
                 low = middle.saturating_add(1);
             }
         }
-        let Some(at) = list.get(low) else {
-            return Some(None);
-        };
-        let next = self.numbering.number(process, *at)?;
-        if next == read {
-            let Some(at) = list.get(low.saturating_add(1)) else {
-                return Some(None);
-            };
-            return Some(self.numbering.number(process, *at));
-        }
-        Some(Some(next))
+        Some(low)
     }
 }

@@ -28,6 +28,18 @@ pub(crate) struct Search {
     pub(crate) fuel: u64,
 }
 
+// The clocks where nothing is drawn, what is flagged then, and what is drawn.
+fn nothing_drawn(
+    alloc: Global,
+    numbering: &Numbering,
+    ops: u32,
+) -> Option<(Clocks, Flags, AllDrawn)> {
+    let clocks = Clocks::new(alloc, numbering)?;
+    let flags = Flags::new(alloc, ops)?;
+    let drawn = AllDrawn::new(alloc, ops)?;
+    Some((clocks, flags, drawn))
+}
+
 impl Search {
     pub(crate) fn new(
         alloc: Global,
@@ -48,9 +60,7 @@ impl Search {
         let ops = numbering.len()?;
         let candidates = Candidates::new(alloc, &numbering, &values)?;
         let writes = Writes::new(alloc, CELLS, &numbering, &values)?;
-        let clocks = Clocks::new(alloc, &numbering)?;
-        let flags = Flags::new(alloc, ops)?;
-        let drawn = AllDrawn::new(alloc, ops)?;
+        let (clocks, flags, drawn) = nothing_drawn(alloc, &numbering, ops)?;
         Some(Search {
             numbering,
             values,
@@ -120,6 +130,11 @@ impl Search {
         if let Some(next) = self.numbering.number(process, at.checked_add(1)?) {
             self.follow(next, x)?;
         }
+        self.follow_drawn(x)
+    }
+
+    // Follows the drawn orders that leave from `x`.
+    fn follow_drawn(&mut self, x: u32) -> Option<()> {
         let mut leaving = self.drawn.newest(x);
         for _ in 0..self.drawn.len()? {
             let Some(id) = leaving else {

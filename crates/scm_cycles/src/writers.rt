@@ -16,12 +16,17 @@ impl Writers {
         for _ in 0..values.count() {
             writers.lists.push(Vec::new(alloc)).ok()?;
         }
+        writers.add_all(numbering, values)?;
+        Some(writers)
+    }
+
+    fn add_all(&mut self, numbering: &Numbering, values: &Values) -> Option<()> {
         for x in 0..numbering.len()? {
             if let Some(value) = values.written(x) {
-                writers.lists.get_mut(value as usize)?.push(x).ok()?;
+                self.lists.get_mut(value as usize)?.push(x).ok()?;
             }
         }
-        Some(writers)
+        Some(())
     }
 
     /// The operations that write this value.
