@@ -73,6 +73,8 @@ mod shared_words;
 #[cfg(test)]
 mod shared_workers;
 #[cfg(test)]
+mod sleeping;
+#[cfg(test)]
 mod tallies;
 #[cfg(test)]
 mod tasks;
