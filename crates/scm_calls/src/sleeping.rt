@@ -68,12 +68,10 @@ fn stores_of_three_processes_sleep(rt: HostRuntime) {
     assert!(rt; ask(&rt, &mut trace, 100) == (Settled::Closed, 47, 27));
 }
 
+/// The step that found no room is made again, and no other.
 #[test]
 fn sleeps_on_where_the_limit_stopped_it(rt: HostRuntime) {
     let mut trace = two_processes(&rt, rt.alloc());
-    let (first, some, _) = ask(&rt, &mut trace, 5);
-    assert!(rt; first == Settled::Spent);
-    let (then, more, held) = ask(&rt, &mut trace, 100);
-    assert!(rt; then == Settled::Closed && held == 16);
-    assert!(rt; some + more == 24);
+    assert!(rt; ask(&rt, &mut trace, 5) == (Settled::Spent, 7, 5));
+    assert!(rt; ask(&rt, &mut trace, 100) == (Settled::Closed, 17, 16));
 }
