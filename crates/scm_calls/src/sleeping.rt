@@ -62,9 +62,9 @@ fn stores_to_other_cells_sleep(rt: HostRuntime) {
     assert!(rt; ask(&rt, &mut trace, 100) == (Settled::Closed, 23, 16));
 }
 
-/// An operation comes next 81 times in the 27 situations. Of these, 34 sleep after one of another process, 6 of them loads.
+/// An operation comes next 81 times in the 27 situations. Of these, 34 sleep, 6 of them loads.
 #[test]
-fn three_processes_sleep(rt: HostRuntime) {
+fn loads_sleep_too(rt: HostRuntime) {
     let mut trace = three_processes(&rt, rt.alloc());
     assert!(rt; ask(&rt, &mut trace, 100) == (Settled::Closed, 47, 27));
 }
