@@ -11,7 +11,7 @@ const LEAST_WIDTH: u32 = 8;
 const GROWTH: u32 = 3;
 
 /// The fuel of all beams for each situation that a search would look at.
-const FUEL_OF_SITUATION: u64 = 24;
+const FUEL_OF_SITUATION: u64 = 12;
 
 /// A schedule that is made from nothing by beams, each wider than the one before, as long as there is fuel.
 pub(crate) fn complete_by_beams(alloc: Global, facts: &Facts, fuel: u64) -> Option<Vec<u8>> {

@@ -1,0 +1,43 @@
+"""What a question costs whose proposal fails: bench/failing.py PROGRAM WITHOUT [SEED]. WITHOUT is the program without proposals.
+
+Traces of three values, of which one, two or five loads are changed: most have no schedule then. Of those that both
+programs give up, or refute, it prints the user time of each, and how many times longer PROGRAM took."""
+
+import itertools
+import random
+import sys
+
+import schedules
+import traces
+
+
+def changed(rng, memory, count):
+    """The memory's reports, of which so many loads read another of the three values."""
+    loads = [(process, at) for process, reports in enumerate(memory.reports) for at, it in enumerate(reports) if it.startswith("lw")]
+    for process, at in rng.sample(loads, count):
+        word, cell, value = memory.reports[process][at].split()
+        memory.reports[process][at] = f"{word} {cell} {(int(value) + rng.randint(1, 2)) % 3}"
+    return memory
+
+
+def question(program, lines):
+    """What the question says, and its user time."""
+    _, reporting = schedules.run(program, lines[:-1])
+    replies, taken = schedules.run(program, lines)
+    return replies and replies[-1].split()[1].decode(), max(0.001, taken - reporting)
+
+
+def main(program, without, seed="0"):
+    rng = random.Random(seed)
+    ratios = []
+    for procs, width, reads, count in itertools.product((4, 8), (2, 8), (0.3, 0.5), (1, 2, 5)):
+        lines = list(traces.script(changed(rng, traces.at_random(rng, procs, 200, width, reads, 10, 3)[0], count), width))
+        with_it, without_it = question(program, lines), question(without, lines)
+        if "consistent" not in (with_it[0], without_it[0]):
+            ratios.append(with_it[1] / without_it[1])
+            print(f"{procs} x 200, {width:>2} cells, {reads} loads, {count} changed: {with_it[0]:<12} {with_it[1]:>7.3f} {without_it[1]:>7.3f} {ratios[-1]:>6.2f}", flush=True)
+    print(f"{len(ratios)} of 24: at most {max(ratios):.2f}, in the mean {sum(ratios) / len(ratios):.2f}")
+
+
+if __name__ == "__main__":
+    main(*sys.argv[1:])
