@@ -83,7 +83,7 @@ def writers(count, stores, value_of=lambda number: number):
 
 def wide(stores):
     """32 processes and 64 cells, of which six processes store this often; the others can't begin, and would then store so
-    many values that no word has room for them. (stores + 1) to the sixth situations."""
+    many values that it takes the longest words. (stores + 1) to the sixth situations."""
     trace = Trace(32, 64)
     for writer in range(6):
         for number in range(1, stores + 1):

@@ -1,10 +1,10 @@
-//! Sets of situations in words of 64 bits, of 128 bits and in full, beside a plain list.
+//! Sets of situations in words of 64 to 512 bits and in full, beside a plain list.
 
 use crate::asked::{Asked, cells};
 use crate::plain_list::{PlainList, agree};
 use crate::traces::{read, swap, write};
 use scm_cells::Cells;
-use scm_frontier::Layout;
+use scm_frontier::{Layout, U256, U512, Word};
 use scm_reach::Settled;
 use scm_schedules::refutation;
 use scm_sequences::{Lengths, MOST_CELLS, MOST_PROCESSES, Op, Sequences};
@@ -17,25 +17,34 @@ use std::test::Fail;
 enum Form {
     Short,
     Long,
+    Longer,
+    Longest,
     Wide,
 }
 
-fn narrowest(rt: &impl Abort, alloc: Global, asked: &Asked) -> Form {
+/// Whether a word has room for a trace.
+fn has_room<W: Word>(rt: &impl Abort, alloc: Global, asked: &Asked) -> bool {
     let initials = asked.reach().initials();
     let sequences = asked.sequences();
     let is_below = sequences.names_cells_below(initials.len());
     assert!(rt; is_below && initials.len() <= MOST_CELLS);
-    if Layout::of::<u64>(alloc, initials, sequences)
+    Layout::of::<W>(alloc, initials, sequences)
         .expect(rt, "memory")
         .is_some()
-    {
+}
+
+fn narrowest(rt: &impl Abort, alloc: Global, asked: &Asked) -> Form {
+    if has_room::<u64>(rt, alloc, asked) {
         return Form::Short;
     }
-    if Layout::of::<u128>(alloc, initials, sequences)
-        .expect(rt, "memory")
-        .is_some()
-    {
+    if has_room::<u128>(rt, alloc, asked) {
         return Form::Long;
+    }
+    if has_room::<U256>(rt, alloc, asked) {
+        return Form::Longer;
+    }
+    if has_room::<U512>(rt, alloc, asked) {
+        return Form::Longest;
     }
     Form::Wide
 }
@@ -64,16 +73,54 @@ fn is_right_at_the_end(rt: &impl Abort, alloc: Global, asked: &mut Asked) -> boo
     is_right(rt, alloc, asked, &lengths)
 }
 
-/// A process that reads what nobody writes, and then writes these many values to each of so many cells: no situation
-/// more, but a longer word.
-fn add_ballast(rt: &impl Abort, asked: &mut Asked, p: usize, cells: u8, values: u64) {
-    for c in 1..cells {
-        asked.report(rt, p, read(c, 99));
-        for value in 1..=values {
-            asked.report(rt, p, write(c, value));
+/// All processes but the first two read what nobody writes, and then a value of their own of one cell after the other, up to
+/// so many operations: no situation more, but a longer word.
+fn add_ballast(rt: &impl Abort, asked: &mut Asked, times: u8) {
+    for p in 2..asked.sequences().procs() {
+        add_reads(rt, asked, p, times);
+    }
+}
+
+fn add_reads(rt: &impl Abort, asked: &mut Asked, p: usize, times: u8) {
+    let before = asked.sequences().count(p);
+    for i in 0..times {
+        if usize::from(i) >= before {
+            asked.report(rt, p, read_of(asked, p, i));
         }
     }
 }
+
+/// Operation `i` of process `p` among these.
+fn read_of(asked: &Asked, p: usize, i: u8) -> Op {
+    if i > 0 && usize::from(i) < asked.reach().initials().len() {
+        read(i, u64::MAX - p as u64)
+    } else {
+        read(2, 9)
+    }
+}
+
+/// A trace of so many processes and cells, and the forms that it grows to with so much ballast.
+#[derive(Clone, Copy)]
+struct Growth {
+    procs: usize,
+    cells: u8,
+    from: Form,
+    to: [(u8, Form); 2],
+}
+
+const SMALL: Growth = Growth {
+    procs: 16,
+    cells: 30,
+    from: Form::Short,
+    to: [(4, Form::Long), (16, Form::Longer)],
+};
+
+const LARGE: Growth = Growth {
+    procs: 32,
+    cells: 64,
+    from: Form::Long,
+    to: [(16, Form::Longest), (64, Form::Wide)],
+};
 
 /// Two traces with the same operations of the first two processes: one whose form grows, and one that was wide from the
 /// start.
@@ -83,17 +130,13 @@ struct Twins {
     wide: Asked,
 }
 
-const PROCS: usize = 16;
-
-const CELLS: u8 = 30;
-
 impl Twins {
-    fn new(rt: &impl Abort, alloc: Global) -> Twins {
-        let cells = cells(rt, alloc, CELLS);
-        let growing = Asked::new(rt, alloc, &cells, PROCS);
-        let mut wide = Asked::new(rt, alloc, &cells, PROCS);
-        add_ballast(rt, &mut wide, 2, CELLS, 8);
-        assert!(rt; narrowest(rt, alloc, &growing) == Form::Short);
+    fn new(rt: &impl Abort, alloc: Global, growth: Growth) -> Twins {
+        assert!(rt; 2 <= growth.procs && growth.procs <= MOST_PROCESSES);
+        let growing = Asked::new(rt, alloc, &cells(rt, alloc, growth.cells), growth.procs);
+        assert!(rt; narrowest(rt, alloc, &growing) == growth.from);
+        let mut wide = Asked::new(rt, alloc, &cells(rt, alloc, 64), MOST_PROCESSES);
+        add_ballast(rt, &mut wide, 64);
         assert!(rt; narrowest(rt, alloc, &wide) == Form::Wide);
         Twins { growing, wide }
     }
@@ -105,20 +148,22 @@ impl Twins {
 
     /// What a question says of both, which is what the plain list says.
     fn ask(&mut self, rt: &impl Abort, alloc: Global, first: [u32; 2]) {
-        let lengths = lengths_of(rt, alloc, PROCS, first);
-        assert!(rt; is_right(rt, alloc, &mut self.growing, &lengths));
-        assert!(rt; is_right(rt, alloc, &mut self.wide, &lengths));
+        for asked in [&mut self.growing, &mut self.wide] {
+            let lengths = lengths_of(rt, alloc, asked.sequences().procs(), first);
+            assert!(rt; is_right(rt, alloc, asked, &lengths));
+        }
     }
 
     fn go_back(&mut self, rt: &impl Abort, alloc: Global, first: [u32; 2]) {
-        let lengths = lengths_of(rt, alloc, PROCS, first);
-        self.growing.go_back(rt, &lengths);
-        self.wide.go_back(rt, &lengths);
+        for asked in [&mut self.growing, &mut self.wide] {
+            let lengths = lengths_of(rt, alloc, asked.sequences().procs(), first);
+            asked.go_back(rt, &lengths);
+        }
     }
 
     /// Lets the form grow to this one, by values that no situation holds.
-    fn grow(&mut self, rt: &impl Abort, alloc: Global, values: u64, to: Form) {
-        add_ballast(rt, &mut self.growing, 3, CELLS, values);
+    fn grow(&mut self, rt: &impl Abort, alloc: Global, (times, to): (u8, Form)) {
+        add_ballast(rt, &mut self.growing, times);
         assert!(rt; narrowest(rt, alloc, &self.growing) == to);
     }
 }
@@ -139,48 +184,57 @@ fn go_on(rt: &impl Abort, twins: &mut Twins) {
     twins.report(rt, 0, read(1, 77));
 }
 
+/// Answers stay as the form grows.
+fn grow(rt: &impl Abort, alloc: Global, growth: Growth) {
+    let mut twins = Twins::new(rt, alloc, growth);
+    begin(rt, &mut twins);
+    twins.ask(rt, alloc, [2, 2]);
+    twins.grow(rt, alloc, growth.to[0]);
+    twins.ask(rt, alloc, [2, 2]);
+    go_on(rt, &mut twins);
+    twins.ask(rt, alloc, [3, 4]);
+    twins.grow(rt, alloc, growth.to[1]);
+    twins.ask(rt, alloc, [2, 2]);
+    twins.ask(rt, alloc, [4, 4]);
+}
+
 #[test]
 fn answers_stay_as_the_form_grows(rt: HostRuntime) {
-    let mut twins = Twins::new(&rt, rt.alloc());
-    begin(&rt, &mut twins);
-    twins.ask(&rt, rt.alloc(), [2, 2]);
-    twins.grow(&rt, rt.alloc(), 1, Form::Long);
-    twins.ask(&rt, rt.alloc(), [2, 2]);
-    go_on(&rt, &mut twins);
-    twins.ask(&rt, rt.alloc(), [3, 4]);
-    twins.grow(&rt, rt.alloc(), 8, Form::Wide);
-    twins.ask(&rt, rt.alloc(), [2, 2]);
-    twins.ask(&rt, rt.alloc(), [4, 4]);
+    grow(&rt, rt.alloc(), SMALL);
+}
+
+#[test]
+fn answers_stay_up_to_the_form_in_full(rt: HostRuntime) {
+    grow(&rt, rt.alloc(), LARGE);
+}
+
+/// And on the way back.
+fn grow_and_go_back(rt: &impl Abort, alloc: Global, growth: Growth) {
+    let mut twins = Twins::new(rt, alloc, growth);
+    begin(rt, &mut twins);
+    twins.ask(rt, alloc, [2, 1]);
+    twins.grow(rt, alloc, growth.to[0]);
+    go_on(rt, &mut twins);
+    twins.ask(rt, alloc, [4, 4]);
+    twins.go_back(rt, alloc, [2, 1]);
+    twins.ask(rt, alloc, [2, 1]);
+    twins.grow(rt, alloc, growth.to[1]);
+    go_on(rt, &mut twins);
+    twins.ask(rt, alloc, [4, 3]);
+    twins.go_back(rt, alloc, [1, 0]);
+    twins.ask(rt, alloc, [1, 0]);
+    go_on(rt, &mut twins);
+    twins.ask(rt, alloc, [3, 2]);
 }
 
 #[test]
 fn answers_stay_on_the_way_back(rt: HostRuntime) {
-    let mut twins = Twins::new(&rt, rt.alloc());
-    begin(&rt, &mut twins);
-    twins.ask(&rt, rt.alloc(), [2, 1]);
-    twins.grow(&rt, rt.alloc(), 1, Form::Long);
-    go_on(&rt, &mut twins);
-    twins.ask(&rt, rt.alloc(), [4, 4]);
-    twins.go_back(&rt, rt.alloc(), [2, 1]);
-    twins.ask(&rt, rt.alloc(), [2, 1]);
-    twins.grow(&rt, rt.alloc(), 8, Form::Wide);
-    go_on(&rt, &mut twins);
-    twins.ask(&rt, rt.alloc(), [4, 3]);
-    twins.go_back(&rt, rt.alloc(), [1, 0]);
-    twins.ask(&rt, rt.alloc(), [1, 0]);
-    go_on(&rt, &mut twins);
-    twins.ask(&rt, rt.alloc(), [3, 2]);
+    grow_and_go_back(&rt, rt.alloc(), SMALL);
 }
 
-/// A trace of 32 processes, of which the others do this so many times and can't go on.
-fn blocked(rt: &impl Abort, alloc: Global, cells: &Cells, times: u8) -> Asked {
-    let mut asked = Asked::new(rt, alloc, cells, MOST_PROCESSES);
-    for p in 2..MOST_PROCESSES {
-        for _ in 0..times {
-            asked.report(rt, p, read(2, 9));
-        }
-    }
-    asked
+#[test]
+fn answers_stay_on_the_way_back_from_the_form_in_full(rt: HostRuntime) {
+    grow_and_go_back(&rt, rt.alloc(), LARGE);
 }
 
 /// The first two processes write and read one value, and then that again so many times.
@@ -191,18 +245,25 @@ fn add_pair(rt: &impl Abort, asked: &mut Asked, times: u8) {
     }
 }
 
-/// One bit for each of 32 counts and 32 cells fills 64 bits. Two for each of 30 counts, one and three for the others and one
-/// for each of 64 cells fill 128.
+/// So many cells, so much ballast in 30 processes, so many reads, and the form: words that are filled to the last bit, and
+/// one bit more.
+const FILLED: [(u8, u8, u8, Form); 9] = [
+    (32, 1, 1, Form::Short),
+    (33, 1, 1, Form::Long),
+    (32, 1, 2, Form::Long),
+    (60, 2, 4, Form::Long),
+    (60, 2, 8, Form::Longer),
+    (42, 16, 4, Form::Longer),
+    (42, 16, 8, Form::Longest),
+    (60, 64, 16, Form::Longest),
+    (60, 64, 32, Form::Wide),
+];
+
 #[test]
 fn words_are_full_to_the_last_bit(rt: HostRuntime) {
-    for (n, times, more, wanted) in [
-        (32, 1, 1, Form::Short),
-        (33, 1, 1, Form::Long),
-        (32, 1, 2, Form::Long),
-        (64, 3, 4, Form::Long),
-        (64, 3, 8, Form::Wide),
-    ] {
-        let mut asked = blocked(&rt, rt.alloc(), &cells(&rt, rt.alloc(), n), times);
+    for (n, times, more, wanted) in FILLED {
+        let mut asked = Asked::new(&rt, rt.alloc(), &cells(&rt, rt.alloc(), n), MOST_PROCESSES);
+        add_ballast(&rt, &mut asked, times);
         add_pair(&rt, &mut asked, more);
         assert!(rt; narrowest(&rt, rt.alloc(), &asked) == wanted);
         assert!(rt; is_right_at_the_end(&rt, rt.alloc(), &mut asked));

@@ -1,34 +1,34 @@
 //! Steps on words, in the layouts of whole traces: that calls succeed, and that fields are filled to the last bit.
 ghost use Rattle.std.specs.Prelude.{◌≡◌, ◌≤◌, IfSome};
 
-use scm_frontier::{Layout, NoRoom, Situation, Steps};
+use scm_frontier::{Layout, NoRoom, Situation, Steps, U256, U512, Word};
 use scm_sequences::{MOST_CELLS, MOST_PROCESSES, Op, Sequences};
 use std::alloc::Global;
 use std::process::Abort;
 
-/// The layout of 64 bits for a trace.
-fn layout(
+/// The layout of a word for a trace.
+fn layout<W: Word>(
     rt: &impl Abort,
     alloc: Global,
     initials: &[Option<u64>],
     sequences: &Sequences,
 ) -> Option<Layout>
-    ensures { IfSome result (λ l. l.bits ≡ 64) }
+    ensures { IfSome result (λ l. l.bits ≡ W.BITS) }
 {
     assert!(rt; initials.len() <= MOST_CELLS && sequences.names_cells_below(initials.len()));
-    Layout::of::<u64>(alloc, initials, sequences).expect(rt, "memory")
+    Layout::of::<W>(alloc, initials, sequences).expect(rt, "memory")
 }
 
 /// The same, which there is.
-fn layout_for(
+fn layout_for<W: Word>(
     rt: &impl Abort,
     alloc: Global,
     initials: &[Option<u64>],
     sequences: &Sequences,
 ) -> Layout
-    ensures { result.bits ≡ 64 }
+    ensures { result.bits ≡ W.BITS }
 {
-    layout(rt, alloc, initials, sequences).expect(rt, "64 bits do")
+    layout::<W>(rt, alloc, initials, sequences).expect(rt, "so many bits do")
 }
 
 /// Process `p` writes 0, 1, 2, 3 to four cells in turn, so many times in all.
@@ -57,8 +57,8 @@ fn writers(rt: &impl Abort, alloc: Global, procs: usize, times: u8) -> Sequences
 }
 
 /// The word of the situation before any operation.
-fn start(rt: &impl Abort, alloc: Global, layout: &Layout, initials: &[Option<u64>]) -> u64
-    requires { layout.now.bits ≤ 64 }
+fn start<W: Word>(rt: &impl Abort, alloc: Global, layout: &Layout, initials: &[Option<u64>]) -> W
+    requires { layout.now.bits ≤ W.BITS }
 {
     assert!(rt; initials.len() <= MOST_CELLS);
     let start = Situation::start(alloc, initials, layout.procs()).expect(rt, "memory");
@@ -66,22 +66,22 @@ fn start(rt: &impl Abort, alloc: Global, layout: &Layout, initials: &[Option<u64
 }
 
 /// The word after one more operation.
-fn after(
+fn after<W: Word>(
     rt: &impl Abort,
     layout: &Layout,
-    word: u64,
+    word: W,
     p: usize,
     op: Op,
-) -> Result<Option<u64>, NoRoom>
-    requires { layout.now.bits ≤ 64 }
+) -> Result<Option<W>, NoRoom>
+    requires { layout.now.bits ≤ W.BITS }
 {
     assert!(rt; p < layout.procs() && op.cell() < layout.cells());
     layout.step(word, p, op, 0, &mut Steps::new())
 }
 
 /// The same, where there is room for it and it is legal.
-fn after_legal(rt: &impl Abort, layout: &Layout, word: u64, p: usize, op: Op) -> u64
-    requires { layout.now.bits ≤ 64 }
+fn after_legal<W: Word>(rt: &impl Abort, layout: &Layout, word: W, p: usize, op: Op) -> W
+    requires { layout.now.bits ≤ W.BITS }
 {
     let Ok(Some(next)) = after(rt, layout, word, p, op) else {
         panic!(rt; "no room, or no legal operation");
@@ -90,8 +90,8 @@ fn after_legal(rt: &impl Abort, layout: &Layout, word: u64, p: usize, op: Op) ->
 }
 
 /// Whether all operations can be made one process after the other, and the word then stands at their end.
-fn is_walked(rt: &impl Abort, layout: &Layout, start: u64, sequences: &Sequences) -> bool
-    requires { layout.now.bits ≤ 64 }
+fn is_walked<W: Word>(rt: &impl Abort, layout: &Layout, start: W, sequences: &Sequences) -> bool
+    requires { layout.now.bits ≤ W.BITS }
 {
     let mut word = start;
     for p in 0..sequences.procs() {
@@ -111,16 +111,31 @@ const ZEROS: [Option<u64>; 4] = [Some(0), Some(0), Some(0), Some(0)];
 #[test]
 fn eight_processes_of_100_operations_fit_64_bits(rt: HostRuntime) {
     let sequences = writers(&rt, rt.alloc(), 8, 100);
-    let full = layout_for(&rt, rt.alloc(), &ZEROS, &sequences);
-    let start = start(&rt, rt.alloc(), &full, &ZEROS);
+    let full = layout_for::<u64>(&rt, rt.alloc(), &ZEROS, &sequences);
+    let start: u64 = start(&rt, rt.alloc(), &full, &ZEROS);
     assert!(rt; is_walked(&rt, &full, start, &sequences));
+}
+
+/// Whether the operations of 32 processes, so many of each, can be made on words of the layout for their trace.
+fn are_walked<W: Word>(rt: &impl Abort, alloc: Global, times: u8) -> bool {
+    let sequences = writers(rt, alloc, MOST_PROCESSES, times);
+    let full = layout_for::<W>(rt, alloc, &ZEROS, &sequences);
+    let start: W = start(rt, alloc, &full, &ZEROS);
+    is_walked(rt, &full, start, &sequences)
+}
+
+// The fields have 7 bits and 14 bits, and some lie across the halves.
+#[test]
+fn steps_go_on_across_the_halves(rt: HostRuntime) {
+    assert!(rt; are_walked::<U256>(&rt, rt.alloc(), 100));
+    assert!(rt; are_walked::<U512>(&rt, rt.alloc(), 130));
 }
 
 #[test]
 fn one_value_more_does_not(rt: HostRuntime) {
     let mut sequences = writers(&rt, rt.alloc(), 8, 100);
     push(&rt, &mut sequences, 0, Op::R { cell: 0, value: 4 });
-    assert!(rt; layout(&rt, rt.alloc(), &ZEROS, &sequences).is_none());
+    assert!(rt; layout::<u64>(&rt, rt.alloc(), &ZEROS, &sequences).is_none());
     assert!(rt; sequences.names_cells_below(4));
     let long = Layout::of::<u128>(rt.alloc(), &ZEROS, &sequences).expect(&rt, "memory");
     assert!(rt; long.is_some());
@@ -146,8 +161,8 @@ fn readers(rt: &impl Abort, alloc: Global) -> Sequences {
 
 #[test]
 fn values_that_are_only_read_have_numbers(rt: HostRuntime) {
-    let small = layout_for(&rt, rt.alloc(), &ONE_OPEN, &readers(&rt, rt.alloc()));
-    let word = start(&rt, rt.alloc(), &small, &ONE_OPEN);
+    let small = layout_for::<u64>(&rt, rt.alloc(), &ONE_OPEN, &readers(&rt, rt.alloc()));
+    let word: u64 = start(&rt, rt.alloc(), &small, &ONE_OPEN);
     assert!(rt; matches!(after(&rt, &small, word, 0, READS[0]), Ok(None)));
     let next = after_legal(&rt, &small, word, 1, READS[1]);
     assert!(rt; small.cells() == 2);
@@ -156,16 +171,16 @@ fn values_that_are_only_read_have_numbers(rt: HostRuntime) {
 
 #[test]
 fn a_value_without_a_number_has_no_room(rt: HostRuntime) {
-    let small = layout_for(&rt, rt.alloc(), &ONE_OPEN, &readers(&rt, rt.alloc()));
-    let word = start(&rt, rt.alloc(), &small, &ONE_OPEN);
+    let small = layout_for::<u64>(&rt, rt.alloc(), &ONE_OPEN, &readers(&rt, rt.alloc()));
+    let word: u64 = start(&rt, rt.alloc(), &small, &ONE_OPEN);
     let write = Op::W { cell: 0, value: 7 };
     assert!(rt; after(&rt, &small, word, 0, write).is_err());
 }
 
 #[test]
 fn a_full_count_has_no_room_for_one_more(rt: HostRuntime) {
-    let full = layout_for(&rt, rt.alloc(), &ZEROS, &writers(&rt, rt.alloc(), 8, 127));
-    let mut word = start(&rt, rt.alloc(), &full, &ZEROS);
+    let full = layout_for::<u64>(&rt, rt.alloc(), &ZEROS, &writers(&rt, rt.alloc(), 8, 127));
+    let mut word: u64 = start(&rt, rt.alloc(), &full, &ZEROS);
     let write = Op::W { cell: 3, value: 3 };
     for _ in 0..127 {
         word = after_legal(&rt, &full, word, 3, write);

@@ -2,7 +2,7 @@
 ghost use Rattle.std.specs.Prelude.{◌≡◌, ◌<◌, ◌≤◌, length, IfSome};
 ghost use Rattle.scm_sequences.specs.declared.limits.TheConstants.{MOST_PROCESSES};
 
-use scm_frontier::{CellValues, ContentsTable, Layout, Situation, Word};
+use scm_frontier::{CellValues, ContentsTable, Layout, MOST_BITS, Situation, U256, U512, Word};
 use scm_sequences::{Lengths, MOST_PROCESSES};
 use std::alloc::Global;
 use std::process::Abort;
@@ -24,7 +24,7 @@ fn open_or_greatest(rt: &impl Abort, alloc: Global) -> CellValues {
 fn layout(rt: &impl Abort, alloc: Global, bits: u32, counts: &[u32]) -> Option<Layout>
     ensures { IfSome result (λ l. l.bits ≡ bits) }
 {
-    assert!(rt; bits <= 128 && !counts.is_empty() && counts.len() <= MOST_PROCESSES);
+    assert!(rt; bits <= MOST_BITS && !counts.is_empty() && counts.len() <= MOST_PROCESSES);
     let values = vec![in alloc; open_or_greatest(rt, alloc)].expect(rt, "memory");
     Layout::new(alloc, bits, &Lengths::new(alloc, counts), values).expect(rt, "memory")
 }
@@ -75,9 +75,54 @@ fn a_word_of_128_bits_is_full_to_the_last(rt: HostRuntime) {
 }
 
 #[test]
+fn a_word_of_256_bits_is_full_to_the_last(rt: HostRuntime) {
+    let mut counts = [WIDE; 8];
+    counts[7] = LESS;
+    let full = layout_for(&rt, rt.alloc(), 256, &counts);
+    let greatest = situation(&rt, rt.alloc(), &counts, Some(u64::MAX));
+    assert!(rt; is_kept::<U256>(&rt, rt.alloc(), &full, &greatest) == Some(true));
+}
+
+#[test]
+fn a_word_of_512_bits_is_full_to_the_last(rt: HostRuntime) {
+    let mut counts = [WIDE; 16];
+    counts[15] = LESS;
+    let full = layout_for(&rt, rt.alloc(), 512, &counts);
+    let greatest = situation(&rt, rt.alloc(), &counts, Some(u64::MAX));
+    assert!(rt; is_kept::<U512>(&rt, rt.alloc(), &full, &greatest) == Some(true));
+}
+
+#[test]
 fn one_bit_more_is_too_much(rt: HostRuntime) {
-    assert!(rt; layout(&rt, rt.alloc(), 64, &[WIDE, WIDE]).is_none());
-    assert!(rt; layout(&rt, rt.alloc(), 128, &[WIDE, WIDE, WIDE, WIDE]).is_none());
+    assert!(rt; layout(&rt, rt.alloc(), 64, &[WIDE; 2]).is_none());
+    assert!(rt; layout(&rt, rt.alloc(), 128, &[WIDE; 4]).is_none());
+    assert!(rt; layout(&rt, rt.alloc(), 256, &[WIDE; 8]).is_none());
+    assert!(rt; layout(&rt, rt.alloc(), 512, &[WIDE; 16]).is_none());
+}
+
+/// Whether the word for these counts stands for them, each in a field of 31 bits.
+fn are_kept<W: Word>(rt: &impl Abort, alloc: Global, counts: &[u32]) -> bool {
+    assert!(rt; counts.len() <= MOST_PROCESSES);
+    let lengths = [LESS; MOST_PROCESSES];
+    let full = layout_for(rt, alloc, W::BITS, &lengths[..counts.len()]);
+    is_kept::<W>(rt, alloc, &full, &situation(rt, alloc, counts, None)) == Some(true)
+}
+
+const ODD: [u32; 16] = [
+    LESS, 0, LESS, 0, LESS, 0, LESS, 0, LESS, 0, LESS, 0, LESS, 0, LESS, 0,
+];
+
+const EVEN: [u32; 16] = [
+    0, LESS, 0, LESS, 0, LESS, 0, LESS, 0, LESS, 0, LESS, 0, LESS, 0, LESS,
+];
+
+/// The halves part after 128, 256 and 384 bits, where none of these fields ends.
+#[test]
+fn a_field_lies_across_the_halves(rt: HostRuntime) {
+    for counts in [ODD, EVEN] {
+        assert!(rt; are_kept::<U256>(&rt, rt.alloc(), &counts[..8]));
+        assert!(rt; are_kept::<U512>(&rt, rt.alloc(), &counts));
+    }
 }
 
 #[test]
