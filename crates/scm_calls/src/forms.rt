@@ -9,18 +9,20 @@ use scm_reach::Settled;
 use scm_schedules::refutation;
 use scm_sequences::{Lengths, MOST_CELLS, MOST_PROCESSES, Op, Sequences};
 use std::alloc::Global;
+use std::ops::Range;
 use std::process::Abort;
 use std::test::Fail;
 
 /// The narrowest form that has room for a trace.
 #[derive(Clone, Copy, PartialEq, Eq, Debug)]
-enum Form {
+pub(crate) enum Form {
     Short,
     Long,
     Wide,
 }
 
-fn narrowest(rt: &impl Abort, alloc: Global, asked: &Asked) -> Form {
+/// The form in which a set of the trace is held.
+pub(crate) fn narrowest(rt: &impl Abort, alloc: Global, asked: &Asked) -> Form {
     let initials = asked.reach().initials();
     let sequences = asked.sequences();
     let is_below = sequences.names_cells_below(initials.len());
@@ -64,10 +66,16 @@ fn is_right_at_the_end(rt: &impl Abort, alloc: Global, asked: &mut Asked) -> boo
     is_right(rt, alloc, asked, &lengths)
 }
 
-/// A process that reads what nobody writes, and then writes these many values to each of so many cells: no situation
-/// more, but a longer word.
-fn add_ballast(rt: &impl Abort, asked: &mut Asked, p: usize, cells: u8, values: u64) {
-    for c in 1..cells {
+/// A process that reads what nobody writes, and then writes these many values to each of these cells: no situation more, but
+/// a longer word.
+pub(crate) fn add_ballast(
+    rt: &impl Abort,
+    asked: &mut Asked,
+    p: usize,
+    cells: Range<u8>,
+    values: u64,
+) {
+    for c in cells {
         asked.report(rt, p, read(c, 99));
         for value in 1..=values {
             asked.report(rt, p, write(c, value));
@@ -92,7 +100,7 @@ impl Twins {
         let cells = cells(rt, alloc, CELLS);
         let growing = Asked::new(rt, alloc, &cells, PROCS);
         let mut wide = Asked::new(rt, alloc, &cells, PROCS);
-        add_ballast(rt, &mut wide, 2, CELLS, 8);
+        add_ballast(rt, &mut wide, 2, 1..CELLS, 8);
         assert!(rt; narrowest(rt, alloc, &growing) == Form::Short);
         assert!(rt; narrowest(rt, alloc, &wide) == Form::Wide);
         Twins { growing, wide }
@@ -118,7 +126,7 @@ impl Twins {
 
     /// Lets the form grow to this one, by values that no situation holds.
     fn grow(&mut self, rt: &impl Abort, alloc: Global, values: u64, to: Form) {
-        add_ballast(rt, &mut self.growing, 3, CELLS, values);
+        add_ballast(rt, &mut self.growing, 3, 1..CELLS, values);
         assert!(rt; narrowest(rt, alloc, &self.growing) == to);
     }
 }
