@@ -60,8 +60,8 @@ fn is_right(rt: &impl Abort, alloc: Global, asked: &mut Asked, lengths: &Lengths
             || refutation(alloc, reach, lengths).expect(rt, "memory") == list.sorted(rt, alloc))
 }
 
-/// Whether that is so of the whole trace.
-fn is_right_at_the_end(rt: &impl Abort, alloc: Global, asked: &mut Asked) -> bool {
+/// Whether a question about the whole trace says what the plain list says.
+pub(crate) fn is_right_at_the_end(rt: &impl Abort, alloc: Global, asked: &mut Asked) -> bool {
     let lengths = asked.sequences().lengths();
     is_right(rt, alloc, asked, &lengths)
 }

@@ -2,13 +2,13 @@
 //! the same in all forms.
 
 use crate::asked::{Asked, cells};
-use crate::forms::{Form, add_ballast, narrowest};
+use crate::forms::{Form, add_ballast, is_right_at_the_end, narrowest};
 use crate::litmus_rows::{ROWS, Row, Wanted};
 use crate::plain_list::{PlainList, agree};
 use scm_frontier::Situation;
-use scm_reach::{Reach, Settled};
+use scm_reach::Settled;
 use scm_schedules::{is_legal, refutation, schedule};
-use scm_sequences::{Lengths, MOST_CELLS, MOST_PROCESSES, Sequences};
+use scm_sequences::{Lengths, MOST_CELLS, MOST_PROCESSES};
 use std::alloc::Global;
 use std::process::Abort;
 
@@ -48,15 +48,6 @@ struct Answer {
     held: Vec<Option<u64>>,
 }
 
-/// A row with the ballast of a form, and the answers so far.
-#[derive(Drop)]
-struct Trial {
-    row: Row,
-    shape: Shape,
-    asked: Asked,
-    answers: Vec<Answer>,
-}
-
 /// How many cells there are: those of the row, and two for each process of the ballast.
 fn cells_of(rt: &impl Abort, row: &Row, shape: &Shape) -> u8 {
     assert!(rt; 0 < row.cells && row.cells <= 4 && shape.procs <= 28);
@@ -66,6 +57,17 @@ fn cells_of(rt: &impl Abort, row: &Row, shape: &Shape) -> u8 {
 fn procs_of(rt: &impl Abort, row: &Row, shape: &Shape) -> usize {
     assert!(rt; 0 < row.procs && row.procs <= 4 && shape.procs <= 28);
     row.procs + shape.procs
+}
+
+/// Reports the ballast.
+fn load(rt: &impl Abort, asked: &mut Asked, row: &Row, shape: &Shape) {
+    let mut cell = row.cells;
+    let procs = procs_of(rt, row, shape);
+    for p in row.procs..procs {
+        let next = cell.checked_add(2).expect(rt, "a cell");
+        add_ballast(rt, asked, p, cell..next, shape.values);
+        cell = next;
+    }
 }
 
 /// How many of the row's first `n` operations each process made.
@@ -100,6 +102,26 @@ fn schedule_to(
     places
 }
 
+/// What a question said of this set.
+fn answer(
+    rt: &impl Abort,
+    alloc: Global,
+    row: &Row,
+    asked: &Asked,
+    lengths: &Lengths,
+    settled: Settled,
+) -> Answer {
+    let held = refutation(alloc, asked.reach(), lengths).expect(rt, "memory");
+    let schedule = match settled {
+        Settled::Whole(id) => Some(schedule_to(rt, alloc, asked, lengths, id)),
+        _ => None,
+    };
+    Answer {
+        schedule,
+        held: parts_of(rt, alloc, row, &held),
+    }
+}
+
 /// The counts and contents of the row in these situations.
 fn parts_of(
     rt: &impl Abort,
@@ -131,50 +153,95 @@ fn add_contents(rt: &impl Abort, parts: &mut Vec<Option<u64>>, row: &Row, situat
     }
 }
 
-/// Whether the list is of as many situations as wanted, and has one with every operation where that is wanted.
-fn is_as_wanted(list: &PlainList, lengths: &Lengths, wanted: Wanted) -> bool {
-    match wanted {
-        Wanted::Consistent(held) => list.has_whole(lengths) && list.len() == held,
-        Wanted::Inconsistent(held) => !list.has_whole(lengths) && list.len() == held,
-    }
+/// In which order a row is reported and asked about.
+#[derive(Clone, Copy)]
+enum Course {
+    AtOnce,
+    AtMark,
+    AndBack,
+}
+
+/// A row with the ballast of a form, and the answers so far.
+#[derive(Drop)]
+struct Trial {
+    row: Row,
+    shape: Shape,
+    asked: Asked,
+    answers: Vec<Answer>,
+    alloc: Global,
 }
 
 impl Trial {
-    /// Only the ballast.
+    /// The ballast alone.
     fn new(rt: &impl Abort, alloc: Global, row: &Row, shape: &Shape) -> Trial {
         let cells = cells(rt, alloc, cells_of(rt, row, shape));
-        let asked = Asked::new(rt, alloc, &cells, procs_of(rt, row, shape));
-        let mut trial = Trial {
+        let mut asked = Asked::new(rt, alloc, &cells, procs_of(rt, row, shape));
+        load(rt, &mut asked, row, shape);
+        Trial {
             row: *row,
             shape: *shape,
             asked,
             answers: Vec::new(alloc),
-        };
-        trial.load(rt);
-        trial
-    }
-
-    fn load(&mut self, rt: &impl Abort) {
-        let mut cell = self.row.cells;
-        let procs = procs_of(rt, &self.row, &self.shape);
-        for p in self.row.procs..procs {
-            let next = cell.checked_add(2).expect(rt, "a cell");
-            add_ballast(rt, &mut self.asked, p, cell..next, self.shape.values);
-            cell = next;
+            alloc,
         }
     }
 
-    /// Fails, and names the row and the form, unless this holds.
-    fn expect(&self, rt: &impl Abort, holds: bool, what: &str) {
-        assert!(rt;
-            holds,
-            "{what} of {} in the form {:?}",
-            self.row.name, self.shape.form
-        );
+    /// Takes this course.
+    fn run(&mut self, rt: &impl Abort, course: Course) {
+        match course {
+            Course::AtOnce => self.ask_at_once(rt),
+            Course::AtMark => self.ask_at_a_mark(rt),
+            Course::AndBack => self.ask_and_go_back(rt),
+        }
     }
 
-    fn expect_form(&self, rt: &impl Abort, alloc: Global, form: Form) {
-        self.expect(rt, narrowest(rt, alloc, &self.asked) == form, "the form");
+    /// The row is asked about, and then the trace with its ballast, which is no situation more.
+    fn ask_at_once(&mut self, rt: &impl Abort) {
+        self.report_before_mark(rt);
+        self.report_behind_mark(rt);
+        self.expect_form(rt);
+        self.ask_at_end(rt);
+        if self.shape.procs > 0 {
+            self.ask_about_all(rt);
+        }
+    }
+
+    /// The part before the mark is asked about once more after the whole.
+    fn ask_at_a_mark(&mut self, rt: &impl Abort) {
+        self.report_before_mark(rt);
+        self.report_behind_mark(rt);
+        self.ask_at_mark(rt);
+        self.ask_at_end(rt);
+        self.ask_at_mark(rt);
+    }
+
+    /// The trace goes back to the mark, first with the ballast and then without, and grows again.
+    fn ask_and_go_back(&mut self, rt: &impl Abort) {
+        self.report_before_mark(rt);
+        self.ask_at_mark(rt);
+        self.ask_again_at_end(rt);
+        let with_ballast = self.lengths_at_mark(rt, true);
+        self.asked.go_back(rt, &with_ballast);
+        self.expect_form(rt);
+        self.ask_at_mark(rt);
+        self.ask_again_at_end(rt);
+        let without = self.lengths_at_mark(rt, false);
+        self.asked.go_back(rt, &without);
+        self.ask_at_mark(rt);
+        self.ask_again_at_end(rt);
+    }
+
+    fn ask_again_at_end(&mut self, rt: &impl Abort) {
+        self.report_behind_mark(rt);
+        self.ask_at_end(rt);
+    }
+
+    fn report_before_mark(&mut self, rt: &impl Abort) {
+        self.report(rt, 0, self.row.mark);
+    }
+
+    fn report_behind_mark(&mut self, rt: &impl Abort) {
+        self.report(rt, self.row.mark, self.row.ops.len());
     }
 
     /// Reports the row's operations from this one up to another.
@@ -186,168 +253,115 @@ impl Trial {
         }
     }
 
-    fn report_to_mark(&mut self, rt: &impl Abort) {
-        self.report(rt, 0, self.row.mark);
-    }
-
-    fn report_the_rest(&mut self, rt: &impl Abort) {
-        self.report(rt, self.row.mark, self.row.ops.len());
-    }
-
-    /// The lengths of the row's first `n` operations.
-    fn lengths(&self, rt: &impl Abort, alloc: Global, n: usize) -> Lengths {
-        let procs = procs_of(rt, &self.row, &self.shape);
-        Lengths::new(alloc, &counts(rt, &self.row, n)[..procs])
-    }
-
-    /// The same, with all of the ballast.
-    fn loaded_lengths(&self, rt: &impl Abort, alloc: Global, n: usize) -> Lengths {
-        let procs = procs_of(rt, &self.row, &self.shape);
-        let mut counts = counts(rt, &self.row, n);
-        let lengths = self.asked.sequences().lengths();
-        assert!(rt; lengths.procs() == procs);
-        for p in self.row.procs..procs {
-            counts[p] = lengths.get(p);
+    /// The lengths of the row before its mark, and all or nothing of the ballast.
+    fn lengths_at_mark(&self, rt: &impl Abort, with_ballast: bool) -> Lengths {
+        let mut counts = counts(rt, &self.row, self.row.mark);
+        let whole = self.asked.sequences().lengths();
+        assert!(rt; whole.procs() <= MOST_PROCESSES && self.row.procs <= whole.procs());
+        if with_ballast {
+            for p in self.row.procs..whole.procs() {
+                counts[p] = whole.get(p);
+            }
         }
-        Lengths::new(alloc, &counts[..procs])
+        Lengths::new(self.alloc, &counts[..whole.procs()])
     }
 
-    /// Asks about these lengths, and notes the answer.
-    fn ask(&mut self, rt: &impl Abort, alloc: Global, lengths: &Lengths, wanted: Wanted) {
-        let settled = self.asked.ask(rt, lengths);
-        let answer = self.answer(rt, alloc, lengths, settled, wanted);
+    fn ask_at_mark(&mut self, rt: &impl Abort) {
+        self.ask(rt, self.row.mark, self.row.at_mark);
+    }
+
+    fn ask_at_end(&mut self, rt: &impl Abort) {
+        self.ask(rt, self.row.ops.len(), self.row.at_end);
+    }
+
+    /// Asks about the row's first `n` operations, and notes the answer.
+    fn ask(&mut self, rt: &impl Abort, n: usize, wanted: Wanted) {
+        let counts = counts(rt, &self.row, n);
+        let procs = procs_of(rt, &self.row, &self.shape);
+        let lengths = Lengths::new(self.alloc, &counts[..procs]);
+        let settled = self.asked.ask(rt, &lengths);
+        self.compare(rt, &lengths, settled, wanted);
+        let answer = answer(rt, self.alloc, &self.row, &self.asked, &lengths, settled);
         self.answers.push(answer).expect(rt, "memory");
     }
 
-    fn ask_at_mark(&mut self, rt: &impl Abort, alloc: Global) {
-        let lengths = self.lengths(rt, alloc, self.row.mark);
-        self.ask(rt, alloc, &lengths, self.row.at_mark);
-    }
-
-    fn ask_at_end(&mut self, rt: &impl Abort, alloc: Global) {
-        let lengths = self.lengths(rt, alloc, self.row.ops.len());
-        self.ask(rt, alloc, &lengths, self.row.at_end);
-    }
-
-    /// What the question says, which is what is wanted and what the plain list says.
-    fn answer(
-        &self,
-        rt: &impl Abort,
-        alloc: Global,
-        lengths: &Lengths,
-        settled: Settled,
-        wanted: Wanted,
-    ) -> Answer {
+    /// Whether the set is what the plain list says, and that what is wanted.
+    fn compare(&self, rt: &impl Abort, lengths: &Lengths, settled: Settled, wanted: Wanted) {
         let (reach, sequences) = (self.asked.reach(), self.asked.sequences());
-        let list = PlainList::of(rt, alloc, reach.initials(), sequences, lengths);
-        self.expect(rt, is_as_wanted(&list, lengths, wanted), "the plain list");
-        self.expect(
-            rt,
-            agree(rt, &list, sequences, lengths, settled, reach),
-            "the set",
-        );
-        let held = refutation(alloc, reach, lengths).expect(rt, "memory");
-        let parts = parts_of(rt, alloc, &self.row, &held);
-        match settled {
-            Settled::Whole(id) => Answer {
-                schedule: Some(schedule_to(rt, alloc, &self.asked, lengths, id)),
-                held: parts,
-            },
-            _ => {
-                self.expect(rt, held == list.sorted(rt, alloc), "the refutation");
-                Answer {
-                    schedule: None,
-                    held: parts,
-                }
-            }
+        let list = PlainList::of(rt, self.alloc, reach.initials(), sequences, lengths);
+        let is_consistent = list.has_whole(lengths);
+        self.expect(rt, is_consistent == wanted.is_consistent(), "the verdict");
+        self.expect(rt, list.len() == wanted.situations(), "the number");
+        let is_right = agree(rt, &list, sequences, lengths, settled, reach);
+        self.expect(rt, is_right, "the set");
+        let held = refutation(self.alloc, reach, lengths).expect(rt, "memory");
+        let is_refuted = is_consistent || held == list.sorted(rt, self.alloc);
+        self.expect(rt, is_refuted, "the refutation");
+    }
+
+    /// Asks about the whole trace, which the ballast makes inconsistent.
+    fn ask_about_all(&mut self, rt: &impl Abort) {
+        let is_right = is_right_at_the_end(rt, self.alloc, &mut self.asked);
+        let held = self.asked.reach().held();
+        self.expect(rt, is_right && held == self.row.at_end.situations(), "all");
+    }
+
+    fn expect_form(&self, rt: &impl Abort) {
+        let form = narrowest(rt, self.alloc, &self.asked);
+        self.expect(rt, form == self.shape.form, "the form");
+    }
+
+    /// Fails, and names the row and the form, unless this holds.
+    fn expect(&self, rt: &impl Abort, holds: bool, what: &str) {
+        let (name, form) = (self.row.name, self.shape.form);
+        assert!(rt; holds, "{what}, of {name} in the form {form:?}");
+    }
+}
+
+/// What the questions of this course say of a row in a form.
+fn answers(
+    rt: &impl Abort,
+    alloc: Global,
+    row: &Row,
+    shape: &Shape,
+    course: Course,
+) -> Vec<Answer> {
+    let mut trial = Trial::new(rt, alloc, row, shape);
+    trial.run(rt, course);
+    trial.answers
+}
+
+/// Whether they say the same of each row in all forms.
+fn compare_forms(rt: &impl Abort, alloc: Global, course: Course) {
+    for row in &ROWS {
+        let first = answers(rt, alloc, row, &SHAPES[0], course);
+        for shape in &SHAPES[1..] {
+            let others = answers(rt, alloc, row, shape, course);
+            expect_same(rt, row, shape, &first, &others);
         }
     }
-
-    fn go_back(&mut self, rt: &impl Abort, lengths: &Lengths) {
-        self.asked.go_back(rt, lengths);
-    }
 }
 
-/// The whole row is asked about, and then all of the trace, in which the ballast is no situation more.
-fn ask_at_once(rt: &impl Abort, alloc: Global, row: &Row, shape: &Shape) -> Vec<Answer> {
-    let mut trial = Trial::new(rt, alloc, row, shape);
-    trial.report(rt, 0, row.ops.len());
-    trial.expect_form(rt, alloc, shape.form);
-    trial.ask_at_end(rt, alloc);
-    trial.answers
-}
-
-/// All of the row is reported, and then its part before the mark asked about and the whole.
-fn ask_at_a_mark(rt: &impl Abort, alloc: Global, row: &Row, shape: &Shape) -> Vec<Answer> {
-    let mut trial = Trial::new(rt, alloc, row, shape);
-    trial.report(rt, 0, row.ops.len());
-    trial.ask_at_mark(rt, alloc);
-    trial.ask_at_end(rt, alloc);
-    trial.ask_at_mark(rt, alloc);
-    trial.answers
-}
-
-/// The trace goes back to the mark, first with the ballast and then without, and grows again.
-fn ask_and_go_back(rt: &impl Abort, alloc: Global, row: &Row, shape: &Shape) -> Vec<Answer> {
-    let mut trial = Trial::new(rt, alloc, row, shape);
-    trial.report_to_mark(rt);
-    trial.ask_at_mark(rt, alloc);
-    trial.report_the_rest(rt);
-    trial.ask_at_end(rt, alloc);
-    let lengths = trial.loaded_lengths(rt, alloc, row.mark);
-    trial.go_back(rt, &lengths);
-    trial.expect_form(rt, alloc, shape.form);
-    trial.ask_at_mark(rt, alloc);
-    trial.report_the_rest(rt);
-    trial.ask_at_end(rt, alloc);
-    let lengths = trial.lengths(rt, alloc, row.mark);
-    trial.go_back(rt, &lengths);
-    trial.expect_form(rt, alloc, Form::Short);
-    trial.ask_at_mark(rt, alloc);
-    trial.report_the_rest(rt);
-    trial.ask_at_end(rt, alloc);
-    trial.answers
-}
-
-/// Fails, and names the row, unless the answers are the same.
+/// Fails, and names the row and the form, unless the answers are the same.
 fn expect_same(rt: &impl Abort, row: &Row, shape: &Shape, first: &[Answer], others: &[Answer]) {
+    let (name, form) = (row.name, shape.form);
     assert!(rt;
         first == others,
-        "the answers to {} in the form {:?}",
-        row.name,
-        shape.form
+        "the answers, to {name} in the form {form:?}"
     );
 }
 
 #[test]
 fn rows_are_settled_alike_in_all_forms(rt: HostRuntime) {
-    for row in &ROWS {
-        let first = ask_at_once(&rt, rt.alloc(), row, &SHAPES[0]);
-        for shape in &SHAPES[1..] {
-            let others = ask_at_once(&rt, rt.alloc(), row, shape);
-            expect_same(&rt, row, shape, &first, &others);
-        }
-    }
+    compare_forms(&rt, rt.alloc(), Course::AtOnce);
 }
 
 #[test]
-fn parts_of_rows_are_settled_alike_in_all_forms(rt: HostRuntime) {
-    for row in &ROWS {
-        let first = ask_at_a_mark(&rt, rt.alloc(), row, &SHAPES[0]);
-        for shape in &SHAPES[1..] {
-            let others = ask_at_a_mark(&rt, rt.alloc(), row, shape);
-            expect_same(&rt, row, shape, &first, &others);
-        }
-    }
+fn marks_are_settled_alike_in_all_forms(rt: HostRuntime) {
+    compare_forms(&rt, rt.alloc(), Course::AtMark);
 }
 
 #[test]
-fn rows_that_go_back_are_settled_alike_in_all_forms(rt: HostRuntime) {
-    for row in &ROWS {
-        let first = ask_and_go_back(&rt, rt.alloc(), row, &SHAPES[0]);
-        for shape in &SHAPES[1..] {
-            let others = ask_and_go_back(&rt, rt.alloc(), row, shape);
-            expect_same(&rt, row, shape, &first, &others);
-        }
-    }
+fn going_back_is_alike_in_all_forms(rt: HostRuntime) {
+    compare_forms(&rt, rt.alloc(), Course::AndBack);
 }

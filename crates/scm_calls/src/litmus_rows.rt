@@ -35,6 +35,18 @@ pub(crate) enum Wanted {
 
 use Wanted::{Consistent, Inconsistent};
 
+impl Wanted {
+    pub(crate) fn is_consistent(self) -> bool {
+        matches!(self, Consistent(_))
+    }
+
+    pub(crate) fn situations(self) -> usize {
+        match self {
+            Consistent(n) | Inconsistent(n) => n,
+        }
+    }
+}
+
 /// A trace of so many processes on so many cells. The first cell is open at first, the others hold 0.
 #[derive(Clone, Copy)]
 pub(crate) struct Row {
