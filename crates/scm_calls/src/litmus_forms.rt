@@ -103,7 +103,7 @@ fn schedule_to(
 }
 
 /// What a question said of this set.
-fn answer(
+fn answer_of(
     rt: &impl Abort,
     alloc: Global,
     row: &Row,
@@ -281,7 +281,7 @@ impl Trial {
         let lengths = Lengths::new(self.alloc, &counts[..procs]);
         let settled = self.asked.ask(rt, &lengths);
         self.compare(rt, &lengths, settled, wanted);
-        let answer = answer(rt, self.alloc, &self.row, &self.asked, &lengths, settled);
+        let answer = answer_of(rt, self.alloc, &self.row, &self.asked, &lengths, settled);
         self.answers.push(answer).expect(rt, "memory");
     }
 
