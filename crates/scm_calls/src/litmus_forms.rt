@@ -278,6 +278,7 @@ impl Trial {
     fn ask(&mut self, rt: &impl Abort, n: usize, wanted: Wanted) {
         let counts = counts(rt, &self.row, n);
         let procs = procs_of(rt, &self.row, &self.shape);
+        assert!(rt; procs <= MOST_PROCESSES);
         let lengths = Lengths::new(self.alloc, &counts[..procs]);
         let settled = self.asked.ask(rt, &lengths);
         self.compare(rt, &lengths, settled, wanted);
