@@ -21,7 +21,7 @@ struct Shape {
     values: u64,
 }
 
-/// The first is that of the bare rows. The last one's ballast alone fills 532 bits.
+/// The first is that of the bare rows. The last one's ballast alone fills 532 bits. A further form is one more entry.
 const SHAPES: [Shape; 3] = [
     Shape {
         form: Form::Short,
