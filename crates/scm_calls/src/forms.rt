@@ -14,7 +14,7 @@ use std::test::Fail;
 
 /// The narrowest form that has room for a trace.
 #[derive(Clone, Copy, PartialEq, Eq, Debug)]
-enum Form {
+pub(crate) enum Form {
     Short,
     Long,
     Longer,
@@ -33,7 +33,7 @@ fn has_room<W: Word>(rt: &impl Abort, alloc: Global, asked: &Asked) -> bool {
         .is_some()
 }
 
-fn narrowest(rt: &impl Abort, alloc: Global, asked: &Asked) -> Form {
+pub(crate) fn narrowest(rt: &impl Abort, alloc: Global, asked: &Asked) -> Form {
     if has_room::<u64>(rt, alloc, asked) {
         return Form::Short;
     }
@@ -68,7 +68,7 @@ fn is_right(rt: &impl Abort, alloc: Global, asked: &mut Asked, lengths: &Lengths
 }
 
 /// Whether that is so of the whole trace.
-fn is_right_at_the_end(rt: &impl Abort, alloc: Global, asked: &mut Asked) -> bool {
+pub(crate) fn is_right_at_the_end(rt: &impl Abort, alloc: Global, asked: &mut Asked) -> bool {
     let lengths = asked.sequences().lengths();
     is_right(rt, alloc, asked, &lengths)
 }

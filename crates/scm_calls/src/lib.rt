@@ -37,6 +37,10 @@ mod initials;
 #[cfg(test)]
 mod lending;
 #[cfg(test)]
+mod litmus_forms;
+#[cfg(test)]
+mod litmus_rows;
+#[cfg(test)]
 mod lowering;
 #[cfg(test)]
 mod marks;
