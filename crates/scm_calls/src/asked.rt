@@ -96,13 +96,22 @@ impl Asked {
 
     /// What comes of the trace cut to these lengths.
     pub(crate) fn ask(&mut self, rt: &impl Abort, lengths: &Lengths) -> Settled {
+        self.ask_in(rt, lengths, &mut Steps::new())
+    }
+
+    /// The same, with its steps counted.
+    pub(crate) fn ask_in(
+        &mut self,
+        rt: &impl Abort,
+        lengths: &Lengths,
+        steps: &mut Steps,
+    ) -> Settled {
         let is_within = lengths.within(&self.sequences.lengths());
         assert!(rt; is_within);
         let has_room = self.reach.held() <= LIMIT;
-        assert!(rt; has_room);
-        let mut steps = Steps::new();
+        assert!(rt; has_room && steps.made() == 0);
         self.reach
-            .settle(&self.sequences, lengths, LIMIT, &mut steps)
+            .settle(&self.sequences, lengths, LIMIT, steps)
             .expect(rt, "memory")
     }
 
