@@ -109,7 +109,8 @@ impl Asked {
         let is_within = lengths.within(&self.sequences.lengths());
         assert!(rt; is_within);
         let has_room = self.reach.held() <= LIMIT;
-        assert!(rt; has_room && steps.made() == 0);
+        let made = steps.made();
+        assert!(rt; has_room && made == 0);
         self.reach
             .settle(&self.sequences, lengths, LIMIT, steps)
             .expect(rt, "memory")

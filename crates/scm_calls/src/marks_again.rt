@@ -102,14 +102,19 @@ fn a_mark_is_looked_at_anew_after_a_return(rt: HostRuntime) {
     assert!(rt; comes_to(&rt, rt.alloc(), &mut asked, &[2, 2], Settled::Closed));
 }
 
-/// The shorter ones of the present lengths and of these.
-fn mark_of(rt: &impl Abort, alloc: Global, asked: &Asked, numbers: &mut Numbers) -> Lengths {
+/// At most three of the first operations of process `p`.
+fn count_of(rt: &impl Abort, asked: &Asked, numbers: &mut Numbers, p: usize) -> u32 {
     let lengths = asked.sequences().lengths();
-    assert!(rt; lengths.procs() == 3);
-    let mut counts = [0; 3];
-    for p in 0..3 {
-        counts[p] = lengths.get(p).min(u32::from(numbers.below(4)));
-    }
+    assert!(rt; p < lengths.procs());
+    lengths.get(p).min(u32::from(numbers.below(4)))
+}
+
+fn mark_of(rt: &impl Abort, alloc: Global, asked: &Asked, numbers: &mut Numbers) -> Lengths {
+    let counts = [
+        count_of(rt, asked, numbers, 0),
+        count_of(rt, asked, numbers, 1),
+        count_of(rt, asked, numbers, 2),
+    ];
     Lengths::new(alloc, &counts)
 }
 
