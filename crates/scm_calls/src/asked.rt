@@ -96,24 +96,26 @@ impl Asked {
 
     /// What comes of the trace cut to these lengths.
     pub(crate) fn ask(&mut self, rt: &impl Abort, lengths: &Lengths) -> Settled {
-        self.ask_in(rt, lengths, &mut Steps::new())
+        self.ask_under(rt, lengths, LIMIT).0
     }
 
-    /// The same, with its steps counted.
-    pub(crate) fn ask_in(
+    /// What comes of it under a limit, and by how many steps.
+    pub(crate) fn ask_under(
         &mut self,
         rt: &impl Abort,
         lengths: &Lengths,
-        steps: &mut Steps,
-    ) -> Settled {
+        limit: usize,
+    ) -> (Settled, u64) {
         let is_within = lengths.within(&self.sequences.lengths());
         assert!(rt; is_within);
-        let has_room = self.reach.held() <= LIMIT;
-        let made = steps.made();
-        assert!(rt; has_room && made == 0);
-        self.reach
-            .settle(&self.sequences, lengths, LIMIT, steps)
-            .expect(rt, "memory")
+        let has_room = self.reach.held() <= limit && limit <= LIMIT;
+        assert!(rt; has_room);
+        let mut steps = Steps::new();
+        let settled = self
+            .reach
+            .settle(&self.sequences, lengths, limit, &mut steps)
+            .expect(rt, "memory");
+        (settled, steps.made())
     }
 
     /// Goes back to these lengths.

@@ -3,11 +3,13 @@
 use crate::asked::{Asked, cells};
 use crate::forms::{Numbers, is_right, is_right_at_the_end};
 use crate::traces::{read, write};
-use scm_frontier::Steps;
 use scm_reach::Settled;
 use scm_sequences::{Lengths, Op};
 use std::alloc::Global;
 use std::process::Abort;
+
+/// More situations than these traces have, but for the generated ones.
+const MOST: usize = 100;
 
 fn report_all(rt: &impl Abort, asked: &mut Asked, operations: &[(usize, Op)]) {
     for (p, op) in operations {
@@ -46,10 +48,7 @@ fn comes_to(
     wanted: Settled,
 ) -> bool {
     let lengths = Lengths::new(alloc, first);
-    let mut steps = Steps::new();
-    is_right(rt, alloc, asked, &lengths)
-        && asked.ask_in(rt, &lengths, &mut steps) == wanted
-        && steps.made() == 0
+    is_right(rt, alloc, asked, &lengths) && asked.ask_under(rt, &lengths, MOST) == (wanted, 0)
 }
 
 /// Whether these first operations have a schedule, as the question says twice.
