@@ -58,7 +58,12 @@ fn lengths_of(rt: &impl Abort, alloc: Global, procs: usize, first: [u32; 2]) -> 
 }
 
 /// Whether a question says what the plain list says, with the same refutation.
-fn is_right(rt: &impl Abort, alloc: Global, asked: &mut Asked, lengths: &Lengths) -> bool {
+pub(crate) fn is_right(
+    rt: &impl Abort,
+    alloc: Global,
+    asked: &mut Asked,
+    lengths: &Lengths,
+) -> bool {
     let settled = asked.ask(rt, lengths);
     let reach = asked.reach();
     let list = PlainList::of(rt, alloc, reach.initials(), asked.sequences(), lengths);
@@ -308,12 +313,16 @@ fn a_value_that_is_only_read_is_no_other(rt: HostRuntime) {
 
 /// Numbers that look random, the same in every run.
 #[derive(Drop)]
-struct Numbers {
+pub(crate) struct Numbers {
     state: u64,
 }
 
 impl Numbers {
-    fn below(&mut self, n: u8) -> u8 {
+    pub(crate) fn new(state: u64) -> Numbers {
+        Numbers { state }
+    }
+
+    pub(crate) fn below(&mut self, n: u8) -> u8 {
         self.state = self
             .state
             .wrapping_mul(6_364_136_223_846_793_005)
@@ -329,7 +338,7 @@ impl Numbers {
         }
     }
 
-    fn operation(&mut self) -> Op {
+    pub(crate) fn operation(&mut self) -> Op {
         let cell = self.below(3);
         match self.below(3) {
             0 => read(cell, self.value()),
@@ -350,7 +359,7 @@ fn report_next(rt: &impl Abort, alloc: Global, asked: &mut Asked, numbers: &mut 
 
 #[test]
 fn generated_traces_are_judged_as_by_a_plain_list(rt: HostRuntime) {
-    let mut numbers = Numbers { state: 1 };
+    let mut numbers = Numbers::new(1);
     for _ in 0..150 {
         let mut asked = Asked::new(&rt, rt.alloc(), &cells(&rt, rt.alloc(), 3), 3);
         for _ in 0..9 {

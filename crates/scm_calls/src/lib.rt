@@ -45,6 +45,8 @@ mod lowering;
 #[cfg(test)]
 mod marks;
 #[cfg(test)]
+mod marks_again;
+#[cfg(test)]
 mod names;
 #[cfg(test)]
 mod numbers;
