@@ -78,6 +78,18 @@ pub(crate) fn is_right_at_the_end(rt: &impl Abort, alloc: Global, asked: &mut As
     is_right(rt, alloc, asked, &lengths)
 }
 
+/// Whether that is so of the trace cut to these lengths of the first two processes.
+fn is_right_up_to(rt: &impl Abort, alloc: Global, asked: &mut Asked, first: [u32; 2]) -> bool {
+    let lengths = lengths_of(rt, alloc, asked.sequences().procs(), first);
+    is_right(rt, alloc, asked, &lengths)
+}
+
+/// Goes back to these lengths of the first two processes.
+fn go_back(rt: &impl Abort, alloc: Global, asked: &mut Asked, first: [u32; 2]) {
+    let lengths = lengths_of(rt, alloc, asked.sequences().procs(), first);
+    asked.go_back(rt, &lengths);
+}
+
 /// All processes but the first two read what nobody writes, and then a value of their own of one cell after the other, up to
 /// so many operations: no situation more, but a longer word.
 fn add_ballast(rt: &impl Abort, asked: &mut Asked, times: u8) {
@@ -153,17 +165,13 @@ impl Twins {
 
     /// What a question says of both, which is what the plain list says.
     fn ask(&mut self, rt: &impl Abort, alloc: Global, first: [u32; 2]) {
-        for asked in [&mut self.growing, &mut self.wide] {
-            let lengths = lengths_of(rt, alloc, asked.sequences().procs(), first);
-            assert!(rt; is_right(rt, alloc, asked, &lengths));
-        }
+        assert!(rt; is_right_up_to(rt, alloc, &mut self.growing, first));
+        assert!(rt; is_right_up_to(rt, alloc, &mut self.wide, first));
     }
 
     fn go_back(&mut self, rt: &impl Abort, alloc: Global, first: [u32; 2]) {
-        for asked in [&mut self.growing, &mut self.wide] {
-            let lengths = lengths_of(rt, alloc, asked.sequences().procs(), first);
-            asked.go_back(rt, &lengths);
-        }
+        go_back(rt, alloc, &mut self.growing, first);
+        go_back(rt, alloc, &mut self.wide, first);
     }
 
     /// Lets the form grow to this one, by values that no situation holds.
