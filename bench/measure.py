@@ -113,6 +113,13 @@ def held(writers, later):
         yield from (line.format(writers) for line in later)
 
 
+def at_mark(writers, times):
+    """The first of these, a mark, a report and a question behind it, and then questions at the mark."""
+    yield from forbidden(writers)
+    yield from ("a mark t", f"a do t {writers} lw c0 1", "a ask t")
+    yield from ["a ask t 0"] * times
+
+
 def machine():
     model = platform.processor() or platform.machine()
     memory = "memory unknown"
@@ -153,17 +160,19 @@ def measure_questions(program, title, family, verdict):
 def measure_held(program):
     """What a question costs beside those before it: the time of the run, less that of the same run without it."""
     print("\na question where situations are held, inconsistent before and after")
-    print(f"{'situations':>11} {'asked again, ms':>16} {'a report and a question, ms':>28}")
+    print(f"{'situations':>11} {'asked again, ms':>16} {'a report and a question, ms':>28} {'at a mark again, ms':>20}")
     for writers in WRITERS[2:]:
         alone = best(program, script_of(forbidden(writers)), SECONDS)
         again = best(program, script_of(held(writers, ["a ask t"])), SECONDS)
         longer = best(program, script_of(held(writers, ["a do t {} lw c0 1", "a ask t"])), SECONDS)
-        if alone is None or again is None or longer is None:
+        mark = best(program, script_of(at_mark(writers, 1)), SECONDS)
+        marks = best(program, script_of(at_mark(writers, 1 + ASKED)), SECONDS)
+        if None in (alone, again, longer, mark, marks):
             return
-        if not all(ran[0][-1].startswith(b"a inconsistent") for ran in (alone, again, longer)):
+        if not all(ran[0][-1].startswith(b"a inconsistent") for ran in (alone, again, longer, mark, marks)):
             sys.exit("bench: wrong verdict")
-        each = [(ran[1] - alone[1]) / ASKED * 1_000 for ran in (again, longer)]
-        print(f"{(STORES + 1) ** writers:>11,} {each[0]:>16.3f} {each[1]:>28.3f}")
+        each = [(ran[1] - before[1]) / ASKED * 1_000 for ran, before in ((again, alone), (longer, alone), (marks, mark))]
+        print(f"{(STORES + 1) ** writers:>11,} {each[0]:>16.3f} {each[1]:>28.3f} {each[2]:>20.3f}")
 
 
 def measure_growth(program):
