@@ -1,8 +1,9 @@
-"""Single calls of which each allocation is refused in turn: the tests that tell which call was refused.
+"""Single calls of which each allocation is refused in turn, or some of very many: the tests that tell which call was refused.
 
 A test that was refused what it needs for itself ends and says that it is memory. Every other end but the good one is wrong,
 and so is each that comes after a call told that it was refused: the same call had the memory then."""
 import collections
+import random
 import re
 from concurrent.futures import ThreadPoolExecutor
 
@@ -11,11 +12,18 @@ from unproved import processors
 
 TESTS = ("refused::", "refused_books::", "refused_forms::", "refused_lines::")
 NO_CALL, PREPARING = "no call", "a test's own preparing"
+MOST, DRAWN = 1_000, 100  # of a test that makes more allocations than the first so many are refused, drawn by its name
 WANTS_MEMORY = re.compile(rb"memory|NoMemory|AllocError|AllocFailed")
 
 
 def told(output):
     return [line.removeprefix("refused ") for line in output.decode().splitlines() if line.startswith("refused ")]
+
+
+def numbers(test, made):
+    """The allocations to refuse: each, or some where there are too many for an evening."""
+    every = range(1, made + IN_VAIN)
+    return every if made <= MOST else random.Random(test).sample(every, DRAWN)
 
 
 class Calls:
@@ -41,8 +49,9 @@ class Calls:
         if self.refuse(0) != NO_CALL:
             self.wrong.append(f"{self.test} fails where nothing is refused")
         made = self.program.allocations([self.test], b"")
-        self.shown.update(pool.map(self.refuse, range(1, made + IN_VAIN)))
-        return made
+        refused = numbers(self.test, made)
+        self.shown.update(pool.map(self.refuse, refused))
+        return len(refused)
 
 
 def tests_of(program):
