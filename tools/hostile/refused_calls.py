@@ -12,7 +12,7 @@ from unproved import processors
 
 TESTS = ("refused::", "refused_books::", "refused_forms::", "refused_lines::")
 NO_CALL, PREPARING = "no call", "a test's own preparing"
-MOST, DRAWN = 1_000, 100  # of a test that makes more allocations than the first so many are refused, drawn by its name
+MOST, DRAWN = 800, 100  # of a test that makes more allocations than the first so many are refused, drawn by its name
 WANTS_MEMORY = re.compile(rb"memory|NoMemory|AllocError|AllocFailed")
 
 
