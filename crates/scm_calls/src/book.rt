@@ -1,12 +1,12 @@
 //! The calls on their happy paths. The worked rows have every refusal.
 
-use crate::traces::{read, sequences_of, write};
+use crate::sequences::{made, push};
 use crate::words::{ANNA, BERT, add_call, cell, done, load, marked, name, refuted, store};
 use scm_book::{Book, Call, Entry, Event, Reply, run_events};
 use scm_cells::Name;
 use scm_frontier::Situation;
 use scm_schedules::{is_legal, refutes};
-use scm_sequences::{Refusal, Sequences};
+use scm_sequences::{Op, Refusal, Sequences};
 use std::alloc::Global;
 use std::process::Abort;
 
@@ -58,13 +58,16 @@ fn pass_message(rt: &impl Abort, book: &mut Book, last: u64) {
 
 // What the reports of a passed message are: the cell x has the number 0, y the number 1.
 fn passed_message(rt: &impl Abort, alloc: Global, last: u64) -> Sequences {
-    let operations = [
-        (0, write(0, 1)),
-        (0, write(1, 1)),
-        (1, read(1, 1)),
-        (1, read(0, last)),
-    ];
-    sequences_of(rt, alloc, 2, &operations)
+    let last_read = Op::R {
+        cell: 0,
+        value: last,
+    };
+    let mut sequences = made(rt, alloc, 2);
+    push(rt, &mut sequences, 0, Op::W { cell: 0, value: 1 });
+    push(rt, &mut sequences, 0, Op::W { cell: 1, value: 1 });
+    push(rt, &mut sequences, 1, Op::R { cell: 1, value: 1 });
+    push(rt, &mut sequences, 1, last_read);
+    sequences
 }
 
 /// What the cells of `open_two` hold at first.

@@ -3,12 +3,12 @@ use scm_sequences::{Lengths, MOST_OPERATIONS, MOST_PROCESSES, Op, Refusal, Seque
 use std::alloc::Global;
 use std::process::Abort;
 
-fn made(rt: &impl Abort, alloc: Global, procs: usize) -> Sequences {
+pub(crate) fn made(rt: &impl Abort, alloc: Global, procs: usize) -> Sequences {
     assert!(rt; 0 < procs && procs <= 4);
     Sequences::new(alloc, procs).expect(rt, "memory")
 }
 
-fn push(rt: &impl Abort, sequences: &mut Sequences, p: usize, op: Op) {
+pub(crate) fn push(rt: &impl Abort, sequences: &mut Sequences, p: usize, op: Op) {
     sequences.push(p, op).expect(rt, "room for an operation");
 }
 

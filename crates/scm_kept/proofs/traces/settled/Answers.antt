@@ -1,10 +1,9 @@
 use Rattle.std.proofs.Common.{refl, ◌≡◌, length, sym, ap, ◌∙◌, subst, rules}
 use Rattle.std.proofs.lemmas.List.{length-map}
 use Rattle.scm_sequences.specs.Ops.{NamesCellsBelow}
-use Rattle.scm_sequences.specs.SequenceLaws.{length-cut_lists}
-use Rattle.scm_sequences.specs.Traces.{trace_of, cut_to}
+use Rattle.scm_sequences.specs.Traces.{trace_of}
 use Rattle.scm_cells.specs.CellLists.{Declared}
-use Rattle.scm_calls.proofs.traces.settled.Goals as goal
+use Rattle.scm_kept.proofs.traces.settled.Goals as goal
 
 pub settle-requires-clause-cells : goal.settle-requires-clause-cells
 settle-requires-clause-cells g c =

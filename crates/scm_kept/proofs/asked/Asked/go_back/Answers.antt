@@ -1,10 +1,10 @@
-use Rattle.std.proofs.Common.{ℕ, List, Option, length, sym, subst, subst₂}
+use Rattle.std.proofs.Common.{ℕ, List, Option, length, sym, subst₂}
 use Rattle.scm_sequences.specs.declared.op.Op.{Op}
 use Rattle.scm_sequences.specs.Ops.{NamesCellsBelow}
 use Rattle.scm_sequences.specs.SequenceLaws.{NamesCellsBelow-cut_lists}
 use Rattle.scm_sequences.specs.Traces.{trace_of}
 use Rattle.scm_reach.specs.Kept.{IsKept}
-use Rattle.scm_calls.proofs.asked.Asked.go_back.Goals as goal
+use Rattle.scm_kept.proofs.asked.Asked.go_back.Goals as goal
 
 pub invariant_of-self : goal.invariant_of-self
 invariant_of-self g c = (
