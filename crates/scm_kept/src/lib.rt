@@ -40,3 +40,5 @@ mod sleeping;
 mod tasks;
 #[cfg(test)]
 mod traces;
+#[cfg(test)]
+mod word_map;
