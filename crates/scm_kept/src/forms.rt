@@ -250,6 +250,24 @@ fn answers_stay_on_the_way_back_from_the_form_in_full(rt: HostRuntime) {
     grow_and_go_back(&rt, rt.alloc(), LARGE);
 }
 
+/// The last process reads on and on what nobody writes, and then ever more values. Where its count or a cell's numbers outgrow
+/// their field, or another value comes first in a cell, the words that are there are packed anew; 64 bits do all the while.
+#[test]
+fn answers_stay_as_fields_grow(rt: HostRuntime) {
+    let mut asked = Asked::new(&rt, rt.alloc(), &cells(&rt, rt.alloc(), 24), 16);
+    for op in [write(1, 5), read(0, 7), write(2, 6)] {
+        asked.report(&rt, 0, op);
+        asked.report(&rt, 1, swap(1, 5, 6));
+    }
+    asked.report(&rt, 15, read(2, 9));
+    assert!(rt; is_right_at_the_end(&rt, rt.alloc(), &mut asked));
+    for i in 0..20 {
+        asked.report(&rt, 15, if i < 10 { read(2, 9) } else { read(23, i) });
+        assert!(rt; is_right_at_the_end(&rt, rt.alloc(), &mut asked));
+        assert!(rt; narrowest(&rt, rt.alloc(), &asked) == Form::Short);
+    }
+}
+
 /// The first two processes write and read one value, and then that again so many times.
 fn add_pair(rt: &impl Abort, asked: &mut Asked, times: u8) {
     asked.report(rt, 0, write(1, u64::MAX));

@@ -134,6 +134,79 @@ fn one_more_than_a_field_holds_has_no_word(rt: HostRuntime) {
     assert!(rt; is_kept::<u64>(&rt, rt.alloc(), &full, &unknown) == None);
 }
 
+#[test]
+fn all_fields_get_as_much_room(rt: HostRuntime) {
+    let even = layout_for(&rt, rt.alloc(), 64, &[1; 15]);
+    let greater = situation(&rt, rt.alloc(), &[15; 15], None);
+    assert!(rt; is_kept::<u64>(&rt, rt.alloc(), &even, &greater) == Some(true));
+}
+
+/// Whether the word of the situation in another layout stands for it; `None` where that has no room for it.
+fn is_kept_across<W: Word + Drop>(
+    rt: &impl Abort,
+    alloc: Global,
+    from: &Layout,
+    to: &Layout,
+    situation: &Situation,
+) -> Option<bool>
+    requires from { from.now.bits ≤ 64 }
+    requires to { to.now.bits ≤ W.BITS }
+{
+    let word = from.pack::<u64>(situation)?;
+    let other = to.pack_word::<W, u64>(from, word)?;
+    Some(to.unpack(alloc, other).expect(rt, "memory") == *situation)
+}
+
+#[test]
+fn a_word_becomes_one_of_another_layout(rt: HostRuntime) {
+    let counts = [WIDE, LESS];
+    let from = layout_for(&rt, rt.alloc(), 64, &counts);
+    let long = layout_for(&rt, rt.alloc(), 128, &counts);
+    let narrow = layout_for(&rt, rt.alloc(), 64, &[7, LESS]);
+    for held in [None, Some(u64::MAX)] {
+        let greatest = situation(&rt, rt.alloc(), &counts, held);
+        assert!(rt; is_kept_across::<u64>(&rt, rt.alloc(), &from, &from, &greatest) == Some(true));
+        assert!(rt; is_kept_across::<u128>(&rt, rt.alloc(), &from, &long, &greatest) == Some(true));
+        assert!(rt; is_kept_across::<u64>(&rt, rt.alloc(), &from, &narrow, &greatest) == None);
+        let fewer = situation(&rt, rt.alloc(), &[7, LESS], held);
+        assert!(rt; is_kept_across::<u64>(&rt, rt.alloc(), &from, &narrow, &fewer) == Some(true));
+    }
+}
+
+/// What a cell may hold that has these values, after being open at first.
+fn open_or(rt: &impl Abort, alloc: Global, values: [u64; 2]) -> CellValues {
+    let mut held = CellValues::new(alloc, None).expect(rt, "memory");
+    for value in values {
+        assert!(rt; held.len() < 100);
+        held.add(value).expect(rt, "memory");
+    }
+    held
+}
+
+/// The layout of 64 bits for a process of up to three operations and a cell that may hold these values.
+fn layout_of(rt: &impl Abort, alloc: Global, values: [u64; 2]) -> Layout
+    ensures { result.bits ≡ 64 }
+{
+    let values = vec![in alloc; open_or(rt, alloc, values)].expect(rt, "memory");
+    Layout::new(alloc, 64, &Lengths::new(alloc, &[3]), values)
+        .expect(rt, "memory")
+        .expect(rt, "64 bits do")
+}
+
+#[test]
+fn values_keep_what_they_are_under_other_numbers(rt: HostRuntime) {
+    let from = layout_of(&rt, rt.alloc(), [5, u64::MAX]);
+    let exchanged = layout_of(&rt, rt.alloc(), [u64::MAX, 5]);
+    let without = layout_of(&rt, rt.alloc(), [5, 6]);
+    for (held, there) in [(Some(5), true), (None, true), (Some(u64::MAX), false)] {
+        let it = situation(&rt, rt.alloc(), &[2], held);
+        assert!(rt; is_kept_across::<u64>(&rt, rt.alloc(), &from, &exchanged, &it) == Some(true));
+        assert!(rt;
+            is_kept_across::<u64>(&rt, rt.alloc(), &from, &without, &it).is_some() == there
+        );
+    }
+}
+
 /// What the cell holds in the word of the situation.
 fn held(layout: &Layout, situation: &Situation) -> Option<Option<u64>>
     requires bits { layout.now.bits ≤ 64 }
