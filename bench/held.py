@@ -6,19 +6,10 @@ import subprocess
 import sys
 import time
 
-STORES = 9  # of each writer
-WRITERS = 6  # 1,000,000 situations
+from inconsistent import writers
+
+STORES, WRITERS = 9, 6  # 1,000,000 situations
 ASKED = 50
-
-
-def forbidden():
-    """The writers' trace of bench/measure.py."""
-    yield f"a open t {WRITERS + 1} 1000000 " + " ".join(f"c{writer}:w=0" for writer in range(WRITERS))
-    yield from (f"a claim t {process}" for process in range(WRITERS + 1))
-    for writer in range(WRITERS):
-        yield from (f"a do t {writer} sw c{writer} {value}" for value in range(1, STORES + 1))
-    yield f"a do t {WRITERS} lw c0 {STORES + 1}"
-    yield "a ask t"
 
 
 def timed(ran, lines):
@@ -41,8 +32,8 @@ def peak_of(ran):
 def measure(program):
     """The reader reads on and on, so its count outgrows its field now and then, and all words are packed anew."""
     with subprocess.Popen([program, "--workers", "0"], stdin=subprocess.PIPE, stdout=subprocess.PIPE) as ran:
-        first = timed(ran, list(forbidden()))
-        each = sorted(timed(ran, [f"a do t {WRITERS} lw c0 1", "a ask t"]) * 1_000 for _ in range(ASKED))
+        first = timed(ran, writers(WRITERS, STORES).script().decode().splitlines())
+        each = sorted(timed(ran, [f"a do t {WRITERS} ld c0 1", "a ask t"]) * 1_000 for _ in range(ASKED))
         peak = peak_of(ran)
         ran.stdin.close()
     print(f"{os.path.basename(program)}: the first question {first:.2f} s; then, in ms: in the middle {each[ASKED // 2]:.3f}, in the mean"

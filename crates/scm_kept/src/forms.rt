@@ -251,16 +251,17 @@ fn answers_stay_on_the_way_back_from_the_form_in_full(rt: HostRuntime) {
 }
 
 /// The last process reads on and on what nobody writes, and then ever more values. Where its count or a cell's numbers outgrow
-/// their field, or another value comes first in a cell, the words that are there are packed anew; 64 bits do all the while.
+/// their field, the words that are there are packed anew, the first time with other numbers for what a cell holds, since what
+/// was read first comes after what others wrote since; 64 bits do all the while.
 #[test]
 fn answers_stay_as_fields_grow(rt: HostRuntime) {
     let mut asked = Asked::new(&rt, rt.alloc(), &cells(&rt, rt.alloc(), 24), 16);
+    asked.report(&rt, 15, read(2, 9));
+    assert!(rt; is_right_at_the_end(&rt, rt.alloc(), &mut asked));
     for op in [write(1, 5), read(0, 7), write(2, 6)] {
         asked.report(&rt, 0, op);
         asked.report(&rt, 1, swap(1, 5, 6));
     }
-    asked.report(&rt, 15, read(2, 9));
-    assert!(rt; is_right_at_the_end(&rt, rt.alloc(), &mut asked));
     for i in 0..20 {
         asked.report(&rt, 15, if i < 10 { read(2, 9) } else { read(23, i) });
         assert!(rt; is_right_at_the_end(&rt, rt.alloc(), &mut asked));
