@@ -76,3 +76,36 @@ fn sleeps_on_where_the_limit_stopped_it(rt: HostRuntime) {
     assert!(rt; ask(&rt, &mut trace, 5) == (Settled::Spent, 7, 5));
     assert!(rt; ask(&rt, &mut trace, 100) == (Settled::Closed, 17, 16));
 }
+
+/// What comes of an operation of process 0 and one of process 1, after which process 0 loads what nobody stored.
+fn ask_both(rt: &impl Abort, alloc: Global, one: Op, other: Op) -> (Settled, u64, usize) {
+    let operations = [(0, one), (0, read(2, 9)), (1, other)];
+    let mut trace = trace(rt, alloc, 2, &operations);
+    ask(rt, &mut trace, 100)
+}
+
+/// After the other operation the one is the second way to the last of four situations, and sleeps where it repeats it.
+#[test]
+fn what_repeats_an_operation_sleeps(rt: HostRuntime) {
+    let loads = ask_both(&rt, rt.alloc(), read(1, 0), read(1, 0));
+    let stores = ask_both(&rt, rt.alloc(), write(1, 1), write(1, 1));
+    let store_after_load = ask_both(&rt, rt.alloc(), write(1, 0), read(1, 0));
+    let all_closed = (Settled::Closed, 4, 4);
+    assert!(rt; loads == all_closed && stores == all_closed && store_after_load == all_closed);
+}
+
+/// A load after a store may have been illegal before it, and stores of two values lead to two situations.
+#[test]
+fn what_repeats_nothing_is_awake(rt: HostRuntime) {
+    let load_after_store = ask_both(&rt, rt.alloc(), read(1, 0), write(1, 0));
+    assert!(rt; load_after_store == (Settled::Closed, 5, 4));
+    let stores = ask_both(&rt, rt.alloc(), write(1, 1), write(1, 2));
+    assert!(rt; stores == (Settled::Closed, 6, 5));
+}
+
+/// The load was illegal before the store, and isn't after it.
+#[test]
+fn a_load_finds_a_later_store(rt: HostRuntime) {
+    let mut trace = trace(&rt, rt.alloc(), 2, &[(0, read(1, 1)), (1, write(1, 1))]);
+    assert!(rt; ask(&rt, &mut trace, 100) == (Settled::Whole(2), 3, 3));
+}
