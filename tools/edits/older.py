@@ -4,8 +4,10 @@ import atexit
 import os
 import shutil
 import tempfile
+import threading
 
-REFUSED, NOT_REFUSED = "refused", "not refused"
+REFUSED, AT_LIMIT, NOT_REFUSED = "refused", "at a limit", "not refused"
+COULD_NOT_TELL = 3  # the status of a check that came to a limit
 OVER = 0.7  # the share of the memory of a check from nothing that one over kept work takes
 
 
@@ -35,11 +37,20 @@ def fill_in(rt):
         atexit.register(shutil.rmtree, room, ignore_errors=True)
         return None if rt.checked(crate, {}, flags, f"{room}/seed").returncode else room
 
-    tried = rt.must_fail
+    checked, tried, last = rt.checked, rt.must_fail, threading.local()
+
+    def noted(*about):
+        """A check, whose status is noted."""
+        ran = checked(*about)
+        last.status = ran.returncode
+        return ran
 
     def must_fail(*about):
+        last.status = None
         is_refused, text = tried(*about)
-        return REFUSED if is_refused else NOT_REFUSED, text
+        if is_refused:
+            return REFUSED, text
+        return AT_LIMIT if last.status == COULD_NOT_TELL else NOT_REFUSED, text
 
-    rt.seeded, rt.must_fail, rt.linked, rt.listing = seeded, must_fail, linked, listing
-    rt.REFUSED, rt.AT_LIMIT, rt.OVER, rt.Kept, rt.stamp_of = REFUSED, REFUSED, OVER, None, None
+    rt.checked, rt.seeded, rt.must_fail, rt.linked, rt.listing = noted, seeded, must_fail, linked, listing
+    rt.REFUSED, rt.AT_LIMIT, rt.OVER, rt.Kept, rt.stamp_of = REFUSED, AT_LIMIT, OVER, None, None
