@@ -8,14 +8,15 @@ import threading
 
 REFUSED, AT_LIMIT, NOT_REFUSED = "refused", "at a limit", "not refused"
 COULD_NOT_TELL = 3  # the status of a check that came to a limit
+LAST_USED = "rattle-last-used"  # an empty file that each check touches
 OVER = 0.7  # the share of the memory of a check from nothing that one over kept work takes
 
 
 def listing(folder):
-    """The files below a folder, each with what changes when it is written."""
+    """The files below a folder, each with what changes when it is written, but for those that only tell when it was used."""
     found = {}
     for at, _, files in os.walk(folder):
-        for name in files:
+        for name in set(files) - {LAST_USED}:
             seen = os.stat(f"{at}/{name}")
             found[f"{at}/{name}"] = (seen.st_ino, seen.st_size, seen.st_mtime_ns)
     return found
