@@ -7,7 +7,7 @@ import tempfile
 import threading
 
 REFUSED, AT_LIMIT, NOT_REFUSED = "refused", "at a limit", "not refused"
-COULD_NOT_TELL = 3  # the status of a check that came to a limit
+COULD_NOT_TELL, UNTOLD = 3, "it did not reach the prover"  # the status of a check that came to a limit, and what is said of it
 LAST_USED = "rattle-last-used"  # an empty file that each check touches
 OVER = 0.7  # the share of the memory of a check from nothing that one over kept work takes
 
@@ -29,7 +29,7 @@ def linked(source, copy):
 
 def fill_in(rt):
     """Gives this rt what it lacks."""
-    if hasattr(rt, "seeded"):
+    if hasattr(rt, "seeded") or hasattr(rt, "REFUSED"):
         return
 
     def seeded(crate, flags):
@@ -51,7 +51,9 @@ def fill_in(rt):
         is_refused, text = tried(*about)
         if is_refused:
             return REFUSED, text
-        return AT_LIMIT if last.status == COULD_NOT_TELL else NOT_REFUSED, text
+        if last.status == COULD_NOT_TELL and UNTOLD in text:
+            return AT_LIMIT, f"{text.partition(':')[0]}: not proved: the check came to a limit"
+        return NOT_REFUSED, text
 
     rt.checked, rt.seeded, rt.must_fail, rt.linked, rt.listing = noted, seeded, must_fail, linked, listing
     rt.REFUSED, rt.AT_LIMIT, rt.OVER, rt.Kept, rt.stamp_of = REFUSED, AT_LIMIT, OVER, None, None
