@@ -10,7 +10,7 @@ FUNCTION = re.compile(r"(?m)^([ \t]*)(?:pub(?:\([^)]*\))? )?(?:const |unsafe )*f
 class Function:
     file: str
     name: str
-    first: int  # its first and last line, counted from 1
+    first: int  # its first and last line, counted from 1, with its attributes, where an older prover begins it
     last: int
     body: str
 
@@ -49,6 +49,8 @@ def functions_of(file, text):
         first = text.count("\n", 0, found.start(2)) + 1
         last = next((at for at in range(first, len(lines) + 1) if lines[at - 1] == f"{found[1]}}}"), None)
         opens = next((at for at in range(first, last or 0) if lines[at - 1].endswith("{")), None)
+        while lines[first - 2].startswith(f"{found[1]}#["):
+            first -= 1
         if opens:
             yield Function(file, found[2], first, last, "\n".join(lines[opens:last]))
 
