@@ -1,5 +1,5 @@
-"""What a report and a question cost while a million situations are held, each by itself: the middle, the mean and the longest
-of 50, for one program after the other. Called as python3 bench/held.py PROGRAM.."""
+"""What a report and a question cost while nearly a million situations are held, each by itself: the middle, the mean and the
+longest of 50, for one program after the other. Called as python3 bench/held.py PROGRAM.."""
 
 import os
 import subprocess
@@ -9,6 +9,7 @@ import time
 from inconsistent import writers
 
 STORES, WRITERS = 9, 6  # 1,000,000 situations
+LEAST = 7  # stores of the first writer where a process waits for all of them: 911,111 situations
 ASKED = 50
 
 
@@ -29,20 +30,37 @@ def peak_of(ran):
         return next(int(line.split()[1]) for line in status if line.startswith("VmHWM"))
 
 
-def measure(program):
-    """The reader reads on and on, so its count outgrows its field now and then, and all words are packed anew."""
+def stuck():
+    """The reader, which can't begin, reads on: no situation is added."""
+    return writers(WRITERS, STORES), WRITERS
+
+
+def waiting():
+    """Fewer stores, and a process that waits until all are made, and then reads on: each time one situation is added, and its
+    count outgrows its field now and then."""
+    trace = writers(WRITERS, STORES)
+    trace.order = [(process, it) for process, it in trace.order if process > 0 or it[2] <= LEAST]
+    trace.procs += 1
+    for cell in range(WRITERS):
+        trace.add(WRITERS + 1, "l", cell, STORES if cell else LEAST)
+    return trace, WRITERS + 1
+
+
+def measure(program, name, trace, reader):
+    value = LEAST if reader > WRITERS else 1
     with subprocess.Popen([program, "--workers", "0"], stdin=subprocess.PIPE, stdout=subprocess.PIPE) as ran:
-        first = timed(ran, writers(WRITERS, STORES).script().decode().splitlines())
-        each = sorted(timed(ran, [f"a do t {WRITERS} ld c0 1", "a ask t"]) * 1_000 for _ in range(ASKED))
+        first = timed(ran, trace.script().decode().splitlines())
+        each = sorted(timed(ran, [f"a do t {reader} ld c0 {value}", "a ask t"]) * 1_000 for _ in range(ASKED))
         peak = peak_of(ran)
         ran.stdin.close()
-    print(f"{os.path.basename(program)}: the first question {first:.2f} s; then, in ms: in the middle {each[ASKED // 2]:.3f}, in the mean"
+    print(f"{os.path.basename(program)}, {name}: the first question {first:.2f} s; then, in ms: in the middle {each[ASKED // 2]:.3f}, in the mean"
           f" {sum(each) / ASKED:.2f}, at most {each[-1]:.1f}, and over 1: {sum(ms > 1 for ms in each)} of {ASKED}; peak {peak:,} kB")
 
 
 def main():
     for program in sys.argv[1:] or sys.exit(__doc__):
-        measure(os.path.abspath(program))
+        for ask in (stuck, waiting):
+            measure(os.path.abspath(program), ask.__name__, *ask())
 
 
 main()

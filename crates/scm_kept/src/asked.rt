@@ -118,6 +118,13 @@ impl Asked {
         (settled, steps.made())
     }
 
+    /// Has the words packed for all of the trace, which a taking of no task does.
+    pub(crate) fn pack(&mut self, rt: &impl Abort, alloc: Global) {
+        let name = Name::read(b"t").expect(rt, "a name");
+        let taken = self.reach.tasks(alloc, name, &self.sequences, 0);
+        assert!(rt; taken.expect(rt, "memory").is_empty());
+    }
+
     /// Goes back to these lengths.
     pub(crate) fn go_back(&mut self, rt: &impl Abort, lengths: &Lengths) {
         let is_within = lengths.within(&self.sequences.lengths());

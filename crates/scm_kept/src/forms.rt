@@ -155,6 +155,7 @@ impl Twins {
         let mut wide = Asked::new(rt, alloc, &cells(rt, alloc, 64), MOST_PROCESSES);
         add_ballast(rt, &mut wide, 64);
         assert!(rt; narrowest(rt, alloc, &wide) == Form::Wide);
+        wide.pack(rt, alloc);
         Twins { growing, wide }
     }
 
@@ -174,10 +175,11 @@ impl Twins {
         go_back(rt, alloc, &mut self.wide, first);
     }
 
-    /// Lets the form grow to this one, by values that no situation holds.
+    /// Lets the form grow to this one, by values that no situation holds: a search alone would not need it.
     fn grow(&mut self, rt: &impl Abort, alloc: Global, (times, to): (u8, Form)) {
         add_ballast(rt, &mut self.growing, times);
         assert!(rt; narrowest(rt, alloc, &self.growing) == to);
+        self.growing.pack(rt, alloc);
     }
 }
 
@@ -251,22 +253,65 @@ fn answers_stay_on_the_way_back_from_the_form_in_full(rt: HostRuntime) {
 }
 
 /// The last process reads on and on what nobody writes, and then ever more values. Where its count or a cell's numbers outgrow
-/// their field, the words that are there are packed anew, the first time with other numbers for what a cell holds, since what
-/// was read first comes after what others wrote since; 64 bits do all the while.
-#[test]
-fn answers_stay_as_fields_grow(rt: HostRuntime) {
-    let mut asked = Asked::new(&rt, rt.alloc(), &cells(&rt, rt.alloc(), 24), 16);
-    asked.report(&rt, 15, read(2, 9));
-    assert!(rt; is_right_at_the_end(&rt, rt.alloc(), &mut asked));
+/// their field, the words that are there are packed anew if they are to have room for all of the trace, the first time with
+/// other numbers for what a cell holds, since what was read first comes after what others wrote since; 64 bits do all the
+/// while. Else they stay, since that process can't begin.
+fn read_on(rt: &impl Abort, alloc: Global, is_packed: bool) {
+    let mut asked = Asked::new(rt, alloc, &cells(rt, alloc, 24), 16);
+    asked.report(rt, 15, read(2, 9));
+    assert!(rt; is_right_at_the_end(rt, alloc, &mut asked));
     for op in [write(1, 5), read(0, 7), write(2, 6)] {
-        asked.report(&rt, 0, op);
-        asked.report(&rt, 1, swap(1, 5, 6));
+        asked.report(rt, 0, op);
+        asked.report(rt, 1, swap(1, 5, 6));
     }
     for i in 0..20 {
-        asked.report(&rt, 15, if i < 10 { read(2, 9) } else { read(23, i) });
-        assert!(rt; is_right_at_the_end(&rt, rt.alloc(), &mut asked));
-        assert!(rt; narrowest(&rt, rt.alloc(), &asked) == Form::Short);
+        asked.report(rt, 15, if i < 10 { read(2, 9) } else { read(23, i) });
+        if is_packed {
+            asked.pack(rt, alloc);
+        }
+        assert!(rt; is_right_at_the_end(rt, alloc, &mut asked));
+        assert!(rt; narrowest(rt, alloc, &asked) == Form::Short);
     }
+}
+
+#[test]
+fn answers_stay_as_fields_grow(rt: HostRuntime) {
+    read_on(&rt, rt.alloc(), true);
+}
+
+#[test]
+fn answers_stay_where_words_have_no_room_for_what_cannot_begin(rt: HostRuntime) {
+    read_on(&rt, rt.alloc(), false);
+}
+
+/// One process can't begin, and the last one goes on: of two such sets one has words with room for all of the trace before
+/// each question, and the other one packs them anew where it meets a situation that has none, by at most a step more.
+fn go_on_beside(rt: &impl Abort, alloc: Global, procs: usize, n: u8) {
+    assert!(rt; 2 <= procs && procs <= MOST_PROCESSES);
+    let mut roomy = Asked::new(rt, alloc, &cells(rt, alloc, n), procs);
+    let mut short = Asked::new(rt, alloc, &cells(rt, alloc, n), procs);
+    roomy.report(rt, 0, read(2, 9));
+    short.report(rt, 0, read(2, 9));
+    for i in 0..40 {
+        roomy.report(rt, procs - 1, write(1, i));
+        short.report(rt, procs - 1, write(1, i));
+        roomy.pack(rt, alloc);
+        let lengths = short.sequences().lengths();
+        let (wanted, least) = roomy.ask_under(rt, &lengths, 100);
+        let (settled, steps) = short.ask_under(rt, &lengths, 100);
+        assert!(rt; settled == wanted && least <= steps && steps - least <= 1);
+        assert!(rt; is_right_at_the_end(rt, alloc, &mut short));
+    }
+}
+
+#[test]
+fn words_are_packed_anew_where_a_situation_has_none(rt: HostRuntime) {
+    go_on_beside(&rt, rt.alloc(), 16, 24);
+}
+
+#[test]
+fn longer_words_are_packed_anew_where_a_situation_has_none(rt: HostRuntime) {
+    go_on_beside(&rt, rt.alloc(), 32, 64);
 }
 
 /// The first two processes write and read one value, and then that again so many times.
@@ -298,6 +343,7 @@ fn words_are_full_to_the_last_bit(rt: HostRuntime) {
         add_ballast(&rt, &mut asked, times);
         add_pair(&rt, &mut asked, more);
         assert!(rt; narrowest(&rt, rt.alloc(), &asked) == wanted);
+        asked.pack(&rt, rt.alloc());
         assert!(rt; is_right_at_the_end(&rt, rt.alloc(), &mut asked));
         let lengths = lengths_of(&rt, rt.alloc(), MOST_PROCESSES, [1, u32::from(more)]);
         assert!(rt; is_right(&rt, rt.alloc(), &mut asked, &lengths));
