@@ -284,17 +284,18 @@ fn answers_stay_where_words_have_no_room_for_what_cannot_begin(rt: HostRuntime) 
     read_on(&rt, rt.alloc(), false);
 }
 
-/// One process can't begin, and the last one goes on: of two such sets one has words with room for all of the trace before
-/// each question, and the other one packs them anew where it meets a situation that has none, by at most a step more.
-fn go_on_beside(rt: &impl Abort, alloc: Global, procs: usize, n: u8) {
-    assert!(rt; 2 <= procs && procs <= MOST_PROCESSES);
+/// One process can't begin, and the last one goes on and stores so many values in turn: of two such sets one has words with
+/// room for all of the trace before each question, and the other one packs them anew where it meets a situation that has none,
+/// by at most a step more. With one value the count alone outgrows its field, and gets a gap.
+fn go_on_beside(rt: &impl Abort, alloc: Global, procs: usize, n: u8, values: u64) {
+    assert!(rt; 2 <= procs && procs <= MOST_PROCESSES && 0 < values);
     let mut roomy = Asked::new(rt, alloc, &cells(rt, alloc, n), procs);
     let mut short = Asked::new(rt, alloc, &cells(rt, alloc, n), procs);
     roomy.report(rt, 0, read(2, 9));
     short.report(rt, 0, read(2, 9));
     for i in 0..40 {
-        roomy.report(rt, procs - 1, write(1, i));
-        short.report(rt, procs - 1, write(1, i));
+        roomy.report(rt, procs - 1, write(1, i % values));
+        short.report(rt, procs - 1, write(1, i % values));
         roomy.pack(rt, alloc);
         let lengths = short.sequences().lengths();
         let (wanted, least) = roomy.ask_under(rt, &lengths, 100);
@@ -306,12 +307,14 @@ fn go_on_beside(rt: &impl Abort, alloc: Global, procs: usize, n: u8) {
 
 #[test]
 fn words_are_packed_anew_where_a_situation_has_none(rt: HostRuntime) {
-    go_on_beside(&rt, rt.alloc(), 16, 24);
+    go_on_beside(&rt, rt.alloc(), 16, 24, 40);
+    go_on_beside(&rt, rt.alloc(), 16, 24, 1);
 }
 
 #[test]
 fn longer_words_are_packed_anew_where_a_situation_has_none(rt: HostRuntime) {
-    go_on_beside(&rt, rt.alloc(), 32, 64);
+    go_on_beside(&rt, rt.alloc(), 32, 64, 40);
+    go_on_beside(&rt, rt.alloc(), 32, 64, 1);
 }
 
 /// The first two processes write and read one value, and then that again so many times.

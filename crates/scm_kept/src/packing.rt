@@ -137,8 +137,51 @@ fn one_more_than_a_field_holds_has_no_word(rt: HostRuntime) {
 #[test]
 fn all_fields_get_as_much_room(rt: HostRuntime) {
     let even = layout_for(&rt, rt.alloc(), 64, &[1; 15]);
-    let greater = situation(&rt, rt.alloc(), &[15; 15], None);
+    let greater = situation(&rt, rt.alloc(), &[7; 15], None);
     assert!(rt; is_kept::<u64>(&rt, rt.alloc(), &even, &greater) == Some(true));
+}
+
+/// Whether a word stands for what it stood for once it has the gap that gives counts as great as these room, and the layout has
+/// room for those then; `None` where there is no such gap.
+fn is_kept_with_a_gap<W: Word>(
+    rt: &impl Abort,
+    alloc: Global,
+    counts: &[u32],
+    greater: &[u32],
+) -> Option<bool> {
+    assert!(rt; W::BITS <= MOST_BITS && greater.len() <= MOST_PROCESSES);
+    let mut layout = layout_for(rt, alloc, W::BITS, counts);
+    let before = situation(rt, alloc, counts, Some(u64::MAX));
+    let word = layout.pack::<W>(&before)?;
+    let gap = layout.gap_for(&Lengths::new(alloc, greater))?;
+    let with_gap = layout.open_word(gap, word)?;
+    layout.open(gap);
+    let after = situation(rt, alloc, greater, None);
+    let is_same = layout.unpack(alloc, with_gap).expect(rt, "memory") == before;
+    Some(is_same && is_kept::<W>(rt, alloc, &layout, &after) == Some(true))
+}
+
+#[test]
+fn a_gap_gives_one_count_room(rt: HostRuntime) {
+    for p in [0, 7, 14] {
+        let mut greater = [1; 15];
+        greater[p] = 100;
+        assert!(rt; is_kept_with_a_gap::<u64>(&rt, rt.alloc(), &[1; 15], &greater) == Some(true));
+        greater[p] = 1_000;
+        assert!(rt; is_kept_with_a_gap::<u128>(&rt, rt.alloc(), &[1; 15], &greater) == Some(true));
+        assert!(rt; is_kept_with_a_gap::<U256>(&rt, rt.alloc(), &[1; 15], &greater) == None);
+    }
+}
+
+#[test]
+fn no_gap_where_two_counts_want_one_or_no_bit_is_to_spare(rt: HostRuntime) {
+    let mut greater = [1; 15];
+    assert!(rt; is_kept_with_a_gap::<u64>(&rt, rt.alloc(), &[1; 15], &greater) == None);
+    greater[3] = 100;
+    assert!(rt; is_kept_with_a_gap::<u64>(&rt, rt.alloc(), &[1; 14], &greater) == None);
+    greater[4] = 100;
+    assert!(rt; is_kept_with_a_gap::<u64>(&rt, rt.alloc(), &[1; 15], &greater) == None);
+    assert!(rt; is_kept_with_a_gap::<u64>(&rt, rt.alloc(), &[WIDE, LESS], &[WIDE, WIDE]) == None);
 }
 
 /// Whether the word of the situation in another layout stands for it; `None` where that has no room for it.
