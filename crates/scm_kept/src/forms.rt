@@ -284,37 +284,111 @@ fn answers_stay_where_words_have_no_room_for_what_cannot_begin(rt: HostRuntime) 
     read_on(&rt, rt.alloc(), false);
 }
 
-/// One process can't begin, and the last one goes on and stores so many values in turn: of two such sets one has words with
-/// room for all of the trace before each question, and the other one packs them anew where it meets a situation that has none,
-/// by at most a step more. With one value the count alone outgrows its field, and gets a gap.
-fn go_on_beside(rt: &impl Abort, alloc: Global, procs: usize, n: u8, values: u64) {
-    assert!(rt; 2 <= procs && procs <= MOST_PROCESSES && 0 < values);
-    let mut roomy = Asked::new(rt, alloc, &cells(rt, alloc, n), procs);
-    let mut short = Asked::new(rt, alloc, &cells(rt, alloc, n), procs);
-    roomy.report(rt, 0, read(2, 9));
-    short.report(rt, 0, read(2, 9));
-    for i in 0..40 {
-        roomy.report(rt, procs - 1, write(1, i % values));
-        short.report(rt, procs - 1, write(1, i % values));
+/// How a trace goes on: one process can't begin, and the last one stores so many values in turn, with a question after so many
+/// stores.
+#[derive(Clone, Copy)]
+struct Course {
+    procs: usize,
+    cells: u8,
+    values: u64,
+    at_once: u8,
+}
+
+/// A trace of this course.
+fn begun(rt: &impl Abort, alloc: Global, course: Course) -> Asked {
+    let procs = course.procs;
+    assert!(rt; 2 <= procs && procs <= MOST_PROCESSES && 0 < course.values && 0 < course.at_once);
+    let mut asked = Asked::new(rt, alloc, &cells(rt, alloc, course.cells), procs);
+    asked.report(rt, 0, read(2, 9));
+    asked
+}
+
+/// Store `i` of this course.
+fn store(rt: &impl Abort, asked: &mut Asked, course: Course, i: u8) {
+    assert!(rt; 0 < course.procs && 0 < course.values);
+    asked.report(rt, course.procs - 1, write(1, u64::from(i) % course.values));
+}
+
+/// By how many steps more a set is asked after 40 stores that packs its words anew, or opens a gap, where it meets a situation
+/// without a word, than one whose words have room for all of the trace before each question: one for each time.
+fn steps_more(rt: &impl Abort, alloc: Global, course: Course) -> u64 {
+    let mut roomy = begun(rt, alloc, course);
+    let mut lacking = begun(rt, alloc, course);
+    let mut more = 0u64;
+    for i in 0..40u8 {
+        store(rt, &mut roomy, course, i);
+        store(rt, &mut lacking, course, i);
+        if course.at_once == 0 || i % course.at_once > 0 {
+            continue;
+        }
         roomy.pack(rt, alloc);
-        let lengths = short.sequences().lengths();
+        let lengths = lacking.sequences().lengths();
         let (wanted, least) = roomy.ask_under(rt, &lengths, 100);
-        let (settled, steps) = short.ask_under(rt, &lengths, 100);
+        let (settled, steps) = lacking.ask_under(rt, &lengths, 100);
         assert!(rt; settled == wanted && least <= steps && steps - least <= 1);
-        assert!(rt; is_right_at_the_end(rt, alloc, &mut short));
+        assert!(rt; is_right_at_the_end(rt, alloc, &mut lacking));
+        more = more.saturating_add(steps - least);
+    }
+    more
+}
+
+/// The count alone outgrows its field, and gets gaps: four times it would be packed anew.
+#[test]
+fn a_gap_is_opened_where_a_situation_has_no_word(rt: HostRuntime) {
+    for (procs, n) in [(16, 24), (32, 64)] {
+        let course = Course {
+            procs,
+            cells: n,
+            values: 1,
+            at_once: 1,
+        };
+        let more = steps_more(&rt, rt.alloc(), course);
+        assert!(rt; 1 <= more && more <= 3);
     }
 }
 
+/// Values outgrow their field too, at the same question as the count or at another one.
 #[test]
 fn words_are_packed_anew_where_a_situation_has_none(rt: HostRuntime) {
-    go_on_beside(&rt, rt.alloc(), 16, 24, 40);
-    go_on_beside(&rt, rt.alloc(), 16, 24, 1);
+    for (procs, n) in [(16, 24), (32, 64)] {
+        for at_once in [1, 5] {
+            let course = Course {
+                procs,
+                cells: n,
+                values: 40,
+                at_once,
+            };
+            assert!(rt; 1 <= steps_more(&rt, rt.alloc(), course));
+        }
+    }
+}
+
+/// One process can't begin, and the others change one cell by turns: a situation each, until words have no room for another
+/// one, and the search goes on in longer ones.
+fn take_turns(rt: &impl Abort, alloc: Global, procs: usize, n: u8, [from, to]: [Form; 2]) {
+    assert!(rt; 2 <= procs && procs <= MOST_PROCESSES);
+    let mut asked = Asked::new(rt, alloc, &cells(rt, alloc, n), procs);
+    asked.report(rt, 0, read(2, 9));
+    assert!(rt; is_right_at_the_end(rt, alloc, &mut asked));
+    assert!(rt; narrowest(rt, alloc, &asked) == from);
+    for k in 0..120u8 {
+        let value = u64::from(k);
+        asked.report(
+            rt,
+            1 + usize::from(k) % (procs - 1),
+            swap(1, value, value + 1),
+        );
+        if k % 10 == 0 {
+            assert!(rt; is_right_at_the_end(rt, alloc, &mut asked));
+        }
+    }
+    assert!(rt; narrowest(rt, alloc, &asked) == to);
 }
 
 #[test]
-fn longer_words_are_packed_anew_where_a_situation_has_none(rt: HostRuntime) {
-    go_on_beside(&rt, rt.alloc(), 32, 64, 40);
-    go_on_beside(&rt, rt.alloc(), 32, 64, 1);
+fn a_search_goes_on_in_longer_words(rt: HostRuntime) {
+    take_turns(&rt, rt.alloc(), 16, 24, [Form::Short, Form::Long]);
+    take_turns(&rt, rt.alloc(), 32, 64, [Form::Long, Form::Longer]);
 }
 
 /// The first two processes write and read one value, and then that again so many times.
