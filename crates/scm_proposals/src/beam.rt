@@ -1,4 +1,6 @@
-//! A beam: a bounded number of states side by side, for traces whose reads have several possible sources.
+//! A beam: a bounded number of states side by side, for traces whose reads have several possible sources. Where all die it
+//! goes back and is made wider.
+use crate::effort::Effort;
 use crate::facts::Facts;
 use crate::front::Front;
 use crate::futures::Futures;
@@ -10,6 +12,9 @@ use std::alloc::Global;
 /// What a move burns. A state that is new burns one for each two processes, since what one waits for may be written by each
 /// other.
 const FUEL_OF_MOVE: u64 = 8;
+
+/// After how many writes there is a checkpoint again.
+const STRIDE: u32 = 16;
 
 /// A state that can be reached next: what it costs, its key, and by which process it is reached from which state.
 #[derive(Clone, Copy, PartialEq, Eq, PartialOrd, Ord)]
@@ -27,31 +32,46 @@ struct Step {
     process: u32,
 }
 
+/// What a beam was, to go back to.
+#[derive(Drop)]
+struct Checkpoint {
+    front: Front,
+    writes: u32,
+    steps: usize,
+    is_cut: bool,
+}
+
 /// All states of a front have made the same number of writes; each differs from the others by its key.
 #[derive(Drop)]
-pub(crate) struct Beam<'a> {
+struct Beam<'a> {
     alloc: Global,
     facts: &'a Facts,
     futures: &'a Futures,
-    width: u32,
+    effort: Effort,
+    checkpoints: Vec<Checkpoint>,
     state: State,
     front: Front,
     next: Front,
+    // How many writes the states of the front have made.
+    writes: u32,
     // Keys of the states that were reached at this step, some by several ways.
     seen: IndexSet<u64>,
     candidates: Vec<Candidate>,
     steps: Vec<Step>,
+    // Whether a state was left out for want of width on the way to the front.
     is_cut: bool,
 }
 
+/// A schedule that is made from nothing by a beam, as long as there is fuel.
+pub(crate) fn complete_by_beam(alloc: Global, facts: &Facts, fuel: u64) -> Option<Vec<u8>> {
+    let mut fuel = fuel;
+    let futures = Futures::new(alloc, facts, &mut fuel)?;
+    Beam::new(alloc, facts, &futures)?.search(&mut fuel)
+}
+
 impl<'a> Beam<'a> {
-    /// A beam of so many states, before any write.
-    pub(crate) fn new(
-        alloc: Global,
-        facts: &'a Facts,
-        futures: &'a Futures,
-        width: u32,
-    ) -> Option<Beam<'a>> {
+    /// Before any write.
+    fn new(alloc: Global, facts: &'a Facts, futures: &'a Futures) -> Option<Beam<'a>> {
         let mut state = State::new(alloc, facts)?;
         state.settle(facts, futures)?;
         let mut front = Front::new(alloc, facts);
@@ -60,10 +80,12 @@ impl<'a> Beam<'a> {
             alloc,
             facts,
             futures,
-            width,
+            effort: Effort::new(),
+            checkpoints: Vec::new(alloc),
             state,
             front,
             next: Front::new(alloc, facts),
+            writes: 0,
             seen: IndexSet::new(alloc),
             candidates: Vec::new(alloc),
             steps: Vec::new(alloc),
@@ -71,22 +93,51 @@ impl<'a> Beam<'a> {
         })
     }
 
-    /// Whether a state was left out for want of width.
-    pub(crate) fn is_cut(&self) -> bool {
-        self.is_cut
-    }
-
-    /// A schedule. `None` where no state can be gone on from, and where the fuel is spent.
-    pub(crate) fn search(&mut self, fuel: &mut u64) -> Option<Vec<u8>> {
-        for _ in 0..=self.facts.ops {
+    /// A schedule. `None` where no state was left out and none can be gone on from, and where the fuel is spent.
+    fn search(&mut self, fuel: &mut u64) -> Option<Vec<u8>> {
+        for _ in 0..*fuel {
+            if self.front.is_empty() {
+                self.go_back()?;
+            }
             self.front.load(0, &mut self.state)?;
             if self.state.left(self.facts)? == 0 {
                 return self.schedule();
             }
+            self.effort.pass(self.writes);
+            self.note_checkpoint()?;
             self.find_candidates(fuel)?;
             self.choose()?;
         }
         None
+    }
+
+    // All states died: they go back to a checkpoint. `None` where nothing was left out on the way here.
+    fn go_back(&mut self) -> Option<()> {
+        if !self.is_cut {
+            return None;
+        }
+        let back = self.effort.grow(self.writes) as usize;
+        let left = self.checkpoints.len().saturating_sub(back).max(1);
+        self.checkpoints.truncate(left);
+        let checkpoint = self.checkpoints.pop()?;
+        self.steps.truncate(checkpoint.steps);
+        self.writes = checkpoint.writes;
+        self.is_cut = checkpoint.is_cut;
+        self.front = checkpoint.front;
+        Some(())
+    }
+
+    fn note_checkpoint(&mut self) -> Option<()> {
+        if !self.writes.is_multiple_of(STRIDE) {
+            return Some(());
+        }
+        let checkpoint = Checkpoint {
+            front: self.front.copy(self.alloc)?,
+            writes: self.writes,
+            steps: self.steps.len(),
+            is_cut: self.is_cut,
+        };
+        self.checkpoints.push(checkpoint).ok()
     }
 
     fn find_candidates(&mut self, fuel: &mut u64) -> Option<()> {
@@ -121,7 +172,7 @@ impl<'a> Beam<'a> {
         let procs = u64::from(self.facts.procs);
         let burnt = procs.saturating_mul(procs);
         *fuel = fuel.checked_sub(burnt)?;
-        let seed = u64::from(self.width);
+        let seed = u64::from(self.effort.width);
         if let Some(score) = Score::of(&self.state, self.facts, self.futures, seed) {
             let candidate = Candidate {
                 cost: score.cost,
@@ -145,13 +196,14 @@ impl<'a> Beam<'a> {
             if !is_new {
                 continue;
             }
-            if self.next.len()? == self.width {
+            if self.next.len()? == self.effort.width {
                 self.is_cut = true;
                 break;
             }
             self.keep(candidate)?;
         }
         std::mem::swap(&mut self.front, &mut self.next);
+        self.writes = self.writes.checked_add(1)?;
         Some(())
     }
 

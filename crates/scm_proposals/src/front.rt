@@ -25,6 +25,26 @@ impl Front {
         }
     }
 
+    /// The same states.
+    pub(crate) fn copy(&self, alloc: Global) -> Option<Front> {
+        let mut copy = Front {
+            procs: self.procs,
+            cells: self.cells,
+            counts: Vec::new(alloc),
+            contents: Vec::new(alloc),
+            steps: Vec::new(alloc),
+        };
+        copy.counts.extend_from_slice(&self.counts).ok()?;
+        copy.contents.extend_from_slice(&self.contents).ok()?;
+        copy.steps.extend_from_slice(&self.steps).ok()?;
+        Some(copy)
+    }
+
+    /// Whether there is no state.
+    pub(crate) fn is_empty(&self) -> bool {
+        self.steps.is_empty()
+    }
+
     /// How many states there are.
     pub(crate) fn len(&self) -> Option<u32> {
         u32::try_from(self.steps.len()).ok()

@@ -4,12 +4,13 @@
 
 mod awaited;
 mod beam;
-mod beams;
 mod beginning;
 mod choosing;
+mod effort;
 mod ending;
 mod facts;
 mod front;
+mod fuel;
 mod futures;
 mod hashing;
 mod memory;

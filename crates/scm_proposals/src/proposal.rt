@@ -1,7 +1,8 @@
 //! A proposal for a schedule.
-use crate::beams::{complete_by_beams, fuel_of_beams};
+use crate::beam::complete_by_beam;
 use crate::beginning::Beginning;
 use crate::facts::Facts;
+use crate::fuel::fuel_of_beam;
 use crate::order::Order;
 use crate::walk::Walk;
 use scm_sequences::{Lengths, Sequences};
@@ -79,7 +80,7 @@ pub fn propose(
             .max(longest.left(lengths))
             .max(SHORTEST_TAIL);
     }
-    proposer.complete_by_beams()
+    proposer.complete_by_beam()
 }
 
 impl Proposer<'_> {
@@ -113,14 +114,14 @@ impl Proposer<'_> {
         Some(walk)
     }
 
-    /// A schedule that is made from nothing, by beams.
-    fn complete_by_beams(&self) -> Option<Vec<u8>> {
-        let fuel = fuel_of_beams(self.lengths, self.room);
+    /// A schedule that is made from nothing, by a beam.
+    fn complete_by_beam(&self) -> Option<Vec<u8>> {
+        let fuel = fuel_of_beam(self.lengths, self.room);
         if fuel == 0 {
             return None;
         }
         let order = self.order(0)?;
-        complete_by_beams(self.alloc, &order.facts, fuel)
+        complete_by_beam(self.alloc, &order.facts, fuel)
     }
 
     /// What comes before what after so many places.
