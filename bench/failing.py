@@ -1,7 +1,8 @@
 """What a question costs whose proposal fails: bench/failing.py PROGRAM WITHOUT [SEED]. WITHOUT is the program without proposals.
 
-Traces of three values, of which one, two or five loads are changed: most have no schedule then. Of those that both
-programs give up, or refute, it prints the user time of each, and how many times longer PROGRAM took."""
+Traces of three values, of which one, two or five loads are changed: most have no schedule then. Some have two processes more,
+of which one spins on a flag. Of those that both programs give up, or refute, it prints the user time of each, and how many
+times longer PROGRAM took."""
 
 import itertools
 import random
@@ -27,16 +28,33 @@ def question(program, lines):
     return replies and replies[-1].split()[1].decode(), max(0.001, taken - reporting)
 
 
-def main(program, without, seed="0"):
-    rng = random.Random(seed)
-    ratios = []
+def spinning(rng, spins):
+    """Another process sets a flag and then spins on it; one more sees it unset after each of its stores. So the flag is set after
+    all of them, and who tries to set it before makes all the loads in vain."""
+    memory = changed(rng, traces.at_random(rng, 3, 200, 2, 0.4, 10, 3)[0], 8)
+    memory.reports.append(["sw c2 1"] + ["lw c2 1"] * spins)
+    memory.reports.append([it for number in range(2_000) for it in (f"sw c3 {1 + number % 2}", "lw c2 0")])
+    return memory
+
+
+def failing(rng):
+    """The name, the memory and the cells of each trace."""
     for procs, width, reads, count in itertools.product((4, 8), (2, 8), (0.3, 0.5), (1, 2, 5)):
-        lines = list(traces.script(changed(rng, traces.at_random(rng, procs, 200, width, reads, 10, 3)[0], count), width))
+        memory = changed(rng, traces.at_random(rng, procs, 200, width, reads, 10, 3)[0], count)
+        yield f"{procs} x 200, {width} cells, {reads} loads, {count} changed", memory, width
+    for spins in (0, 1_000, 5_000, 20_000):
+        yield f"3 x 200, a flag loaded {spins} times", spinning(rng, spins), 4
+
+
+def main(program, without, seed="0"):
+    ratios = []
+    for count, (name, memory, cells) in enumerate(failing(random.Random(seed)), 1):
+        lines = list(traces.script(memory, cells))
         with_it, without_it = question(program, lines), question(without, lines)
         if "consistent" not in (with_it[0], without_it[0]):
             ratios.append(with_it[1] / without_it[1])
-            print(f"{procs} x 200, {width:>2} cells, {reads} loads, {count} changed: {with_it[0]:<12} {with_it[1]:>7.3f} {without_it[1]:>7.3f} {ratios[-1]:>6.2f}", flush=True)
-    print(f"{len(ratios)} of 24: at most {max(ratios):.2f}, in the mean {sum(ratios) / len(ratios):.2f}")
+            print(f"{name:<40} {with_it[0]:<12} {with_it[1]:>7.3f} {without_it[1]:>7.3f} {ratios[-1]:>6.2f}", flush=True)
+    print(f"{len(ratios)} of {count}: at most {max(ratios):.2f}, in the mean {sum(ratios) / len(ratios):.2f}")
 
 
 if __name__ == "__main__":

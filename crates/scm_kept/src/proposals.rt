@@ -24,12 +24,12 @@ fn message_passing(rt: HostRuntime) {
     assert!(rt; schedule.expect(&rt, "a schedule").as_slice() == [0, 0, 1, 1].as_slice());
 }
 
-/// What a memory did, whose two cells three processes accessed as it came, with three values.
-fn of_few_values(rt: &impl Abort, alloc: Global, seed: u64) -> Sequences {
+/// What a memory did, whose two cells three processes accessed as it came, so many times, with three values.
+fn of_few_values(rt: &impl Abort, alloc: Global, seed: u64, accesses: u8) -> Sequences {
     let mut numbers = Numbers::new(seed);
     let mut contents = [0, 0];
     let mut sequences = Sequences::new(alloc, 3).expect(rt, "memory");
-    for _ in 0..60 {
+    for _ in 0..accesses {
         let process = usize::from(numbers.below(3));
         let cell = numbers.below(2);
         let value = u64::from(numbers.below(3));
@@ -47,13 +47,20 @@ fn of_few_values(rt: &impl Abort, alloc: Global, seed: u64) -> Sequences {
     sequences
 }
 
-/// Here all states of the beam die, and it finds a schedule after it went back.
+/// Here all states of the beam die, and it finds a schedule after it went back: not to the beginning, and once for all; so
+/// too, where no beam of the first one's width, or of twice it, comes to the end; far enough only the second time; from two
+/// places.
 #[test]
 fn a_beam_goes_back(rt: HostRuntime) {
-    for seed in [13, 193] {
-        let sequences = of_few_values(&rt, rt.alloc(), seed);
+    for (seed, accesses, room) in [
+        (5, 60, 2_000),
+        (77, 60, 2_000),
+        (1_314, 100, 3_300),
+        (1_707, 100, 3_300),
+    ] {
+        let sequences = of_few_values(&rt, rt.alloc(), seed, accesses);
         let lengths = sequences.lengths();
-        let schedule = propose(rt.alloc(), &ZEROS, &sequences, &lengths, &[], 2_000, 2_000);
+        let schedule = propose(rt.alloc(), &ZEROS, &sequences, &lengths, &[], room, room);
         let schedule = schedule.expect(&rt, "a schedule");
         assert!(rt; sequences.names_cells_below(2) && lengths.within(&sequences.lengths()));
         assert!(rt; is_legal(&ZEROS, &sequences, &lengths, &schedule));

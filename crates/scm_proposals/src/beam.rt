@@ -13,6 +13,9 @@ use std::alloc::Global;
 /// other.
 const FUEL_OF_MOVE: u64 = 8;
 
+/// Of the operations that are made after a move, since they change nothing, so many burn one.
+const FOLLOWING_FOR_ONE: u64 = 2;
+
 /// After how many writes there is a checkpoint again.
 const STRIDE: u32 = 16;
 
@@ -95,6 +98,7 @@ impl<'a> Beam<'a> {
 
     /// A schedule. `None` where no state was left out and none can be gone on from, and where the fuel is spent.
     fn search(&mut self, fuel: &mut u64) -> Option<Vec<u8>> {
+        // Each round burns some, or goes back.
         for _ in 0..*fuel {
             if self.front.is_empty() {
                 self.go_back()?;
@@ -111,14 +115,15 @@ impl<'a> Beam<'a> {
         None
     }
 
-    // All states died: they go back to a checkpoint. `None` where nothing was left out on the way here.
+    // All states died: they go back, beyond the newest checkpoint, since what is dead now was so for a while. `None` where
+    // nothing was left out on the way here.
     fn go_back(&mut self) -> Option<()> {
         if !self.is_cut {
             return None;
         }
         let back = self.effort.grow(self.writes) as usize;
-        let left = self.checkpoints.len().saturating_sub(back).max(1);
-        self.checkpoints.truncate(left);
+        let number = self.checkpoints.len().saturating_sub(back).max(1);
+        self.checkpoints.truncate(number);
         let checkpoint = self.checkpoints.pop()?;
         self.steps.truncate(checkpoint.steps);
         self.writes = checkpoint.writes;
@@ -159,6 +164,7 @@ impl<'a> Beam<'a> {
         *fuel = fuel.checked_sub(FUEL_OF_MOVE)?;
         self.state
             .advance(self.facts, self.futures, process, access)?;
+        *fuel = fuel.checked_sub(self.state.made() / FOLLOWING_FOR_ONE)?;
         let key = self.state.key();
         let (_, is_new) = self.seen.insert_full(key).ok()?;
         if is_new {

@@ -27,17 +27,13 @@ impl Front {
 
     /// The same states.
     pub(crate) fn copy(&self, alloc: Global) -> Option<Front> {
-        let mut copy = Front {
+        Some(Front {
             procs: self.procs,
             cells: self.cells,
-            counts: Vec::new(alloc),
-            contents: Vec::new(alloc),
-            steps: Vec::new(alloc),
-        };
-        copy.counts.extend_from_slice(&self.counts).ok()?;
-        copy.contents.extend_from_slice(&self.contents).ok()?;
-        copy.steps.extend_from_slice(&self.steps).ok()?;
-        Some(copy)
+            counts: Vec::from_slice(alloc, &self.counts).ok()?,
+            contents: Vec::from_slice(alloc, &self.contents).ok()?,
+            steps: Vec::from_slice(alloc, &self.steps).ok()?,
+        })
     }
 
     /// Whether there is no state.

@@ -25,12 +25,16 @@ pub(crate) struct Score {
 }
 
 impl Score {
-    /// Of a state. `None` where a process waits for a value that nobody writes any more.
+    /// Of a state; a whole one costs nothing, and so comes first. `None` where a process waits for a value that nobody writes
+    /// any more.
     pub(crate) fn of(state: &State, facts: &Facts, futures: &Futures, seed: u64) -> Option<Score> {
         let mut score = Score {
             cost: 0,
             key: state.key_of_counts(),
         };
+        if state.left(facts)? == 0 {
+            return Some(score);
+        }
         score.add_counts(state, facts)?;
         for process in 0..facts.procs {
             score.add_process(state, facts, futures, process)?;

@@ -49,6 +49,11 @@ impl State {
         Some(left)
     }
 
+    /// How many operations were made since the state was begun or loaded.
+    pub(crate) fn made(&self) -> u64 {
+        self.made.len() as u64
+    }
+
     /// Tells how far the processes are.
     pub(crate) fn key_of_counts(&self) -> u64 {
         let mut key = 0;

@@ -147,7 +147,7 @@ fn schedules_beyond_the_budget(rt: HostRuntime) {
 }
 
 /// Few values, reported process by process, and more situations than the budget: a walk that goes by known writers finds no
-/// schedule, and beams do.
+/// schedule, and a beam does.
 #[test]
 fn few_values_beyond_the_budget(rt: HostRuntime) {
     expect_exchanges(

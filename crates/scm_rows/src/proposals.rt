@@ -175,7 +175,7 @@ fn turns(rt: HostRuntime) -> Result<(), Fail> {
     Ok(())
 }
 
-/// A trace of few values, in which most reads have several writers: the walk alone finds no way, and beams do, where the
+/// A trace of few values, in which most reads have several writers: the walk alone finds no way, and a beam does, where the
 /// search that follows has less room than the counts tell apart.
 #[test]
 fn few_values(rt: HostRuntime) -> Result<(), Fail> {
