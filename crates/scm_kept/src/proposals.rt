@@ -55,8 +55,8 @@ fn a_beam_goes_back(rt: HostRuntime) {
     for (seed, accesses, room) in [
         (5, 60, 2_000),
         (77, 60, 2_000),
-        (1_314, 100, 3_300),
-        (1_707, 100, 3_300),
+        (1_314, 100, 3_600),
+        (1_707, 100, 3_600),
     ] {
         let sequences = of_few_values(&rt, rt.alloc(), seed, accesses);
         let lengths = sequences.lengths();

@@ -9,12 +9,9 @@ use crate::state::State;
 use indexmap::IndexSet;
 use std::alloc::Global;
 
-/// What a move burns. A state that is new burns one for each two processes, since what one waits for may be written by each
-/// other.
+/// What a move burns, beside one for each operation that is made with it. A state that is new burns one for each two
+/// processes, since what one waits for may be written by each other.
 const FUEL_OF_MOVE: u64 = 8;
-
-/// Of the operations that are made after a move, since they change nothing, so many burn one.
-const FOLLOWING_FOR_ONE: u64 = 2;
 
 /// After how many writes there is a checkpoint again.
 const STRIDE: u32 = 16;
@@ -164,7 +161,7 @@ impl<'a> Beam<'a> {
         *fuel = fuel.checked_sub(FUEL_OF_MOVE)?;
         self.state
             .advance(self.facts, self.futures, process, access)?;
-        *fuel = fuel.checked_sub(self.state.made() / FOLLOWING_FOR_ONE)?;
+        *fuel = fuel.checked_sub(self.state.made())?;
         let key = self.state.key();
         let (_, is_new) = self.seen.insert_full(key).ok()?;
         if is_new {
