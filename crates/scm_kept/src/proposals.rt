@@ -47,9 +47,9 @@ fn of_few_values(rt: &impl Abort, alloc: Global, seed: u64, accesses: u8) -> Seq
     sequences
 }
 
-/// Here all states of the beam die, and it finds a schedule after it went back: not to the beginning, and once for all; so
-/// too, where no beam of the first one's width, or of twice it, comes to the end; far enough only the second time; from two
-/// places.
+/// Here all states of the beam die, and it finds a schedule after it went back. Of the first two neither one that begins anew
+/// each time nor one of a single width would find both; of the third only one that goes farther back the second time finds
+/// one; in the last they die at two places.
 #[test]
 fn a_beam_goes_back(rt: HostRuntime) {
     for (seed, accesses, room) in [

@@ -9,9 +9,11 @@ use crate::state::State;
 use indexmap::IndexSet;
 use std::alloc::Global;
 
-/// What a move burns, beside one for each operation that is made with it. A state that is new burns one for each two
+/// What a move burns, and what each operation burns that is made with it. A state that is new burns one for each two
 /// processes, since what one waits for may be written by each other.
-const FUEL_OF_MOVE: u64 = 8;
+const FUEL_OF_MOVE: u64 = 16;
+
+const FUEL_OF_MADE: u64 = 2;
 
 /// After how many writes there is a checkpoint again.
 const STRIDE: u32 = 16;
@@ -95,7 +97,7 @@ impl<'a> Beam<'a> {
 
     /// A schedule. `None` where no state was left out and none can be gone on from, and where the fuel is spent.
     fn search(&mut self, fuel: &mut u64) -> Option<Vec<u8>> {
-        // Each round burns some, or goes back.
+        // A round in which nothing can be made burns none, and the next one goes back.
         for _ in 0..*fuel {
             if self.front.is_empty() {
                 self.go_back()?;
@@ -161,7 +163,7 @@ impl<'a> Beam<'a> {
         *fuel = fuel.checked_sub(FUEL_OF_MOVE)?;
         self.state
             .advance(self.facts, self.futures, process, access)?;
-        *fuel = fuel.checked_sub(self.state.made())?;
+        *fuel = fuel.checked_sub(self.state.made().saturating_mul(FUEL_OF_MADE))?;
         let key = self.state.key();
         let (_, is_new) = self.seen.insert_full(key).ok()?;
         if is_new {

@@ -2,7 +2,7 @@
 use scm_sequences::Lengths;
 
 /// The fuel of a beam for each situation that a search would look at.
-const FUEL_OF_SITUATION: u64 = 12;
+const FUEL_OF_SITUATION: u64 = 14;
 
 /// The fuel of a beam before a search that has room for so many situations. There is none where the counts tell no more
 /// apart: such a search mostly settles the question itself.
