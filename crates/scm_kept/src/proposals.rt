@@ -53,10 +53,10 @@ fn of_few_values(rt: &impl Abort, alloc: Global, seed: u64, accesses: u8) -> Seq
 #[test]
 fn a_beam_goes_back(rt: HostRuntime) {
     for (seed, accesses, room) in [
-        (5, 60, 2_000),
-        (77, 60, 2_000),
-        (1_314, 100, 3_600),
-        (1_707, 100, 3_600),
+        (5, 60, 3_000),
+        (77, 60, 3_000),
+        (1_314, 100, 5_200),
+        (1_707, 100, 5_200),
     ] {
         let sequences = of_few_values(&rt, rt.alloc(), seed, accesses);
         let lengths = sequences.lengths();

@@ -154,7 +154,7 @@ fn few_values_beyond_the_budget(rt: HostRuntime) {
         &rt,
         rt.alloc(),
         "
-        a open t 3 60 x:w=0 y:w=0 => a ok
+        a open t 3 80 x:w=0 y:w=0 => a ok
         a claim t 0 => a ok
         a claim t 1 => a ok
         a claim t 2 => a ok

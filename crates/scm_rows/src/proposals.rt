@@ -204,7 +204,7 @@ fn few_values(rt: HostRuntime) -> Result<(), Fail> {
         read(1, 2),
     ];
     let sequences = sequences_of(&rt, rt.alloc(), &[&first, &second, &third])?;
-    for (room, is_found) in [(0, false), (60, true), (343, false)] {
+    for (room, is_found) in [(0, false), (80, true), (343, false)] {
         let found = has_legal_proposal_from(&rt, rt.alloc(), &ZEROS, &sequences, &[], room);
         assert!(rt; found == is_found);
     }
