@@ -11,9 +11,9 @@ use std::alloc::Global;
 
 /// What a move burns, and what each operation burns that is made with it. A state that is new burns one for each two
 /// processes, since what one waits for may be written by each other.
-const FUEL_OF_MOVE: u64 = 16;
+const FUEL_OF_MOVE: u64 = 14;
 
-const FUEL_OF_MADE: u64 = 2;
+const FUEL_OF_MADE: u64 = 4;
 
 /// After how many writes there is a checkpoint again.
 const STRIDE: u32 = 16;
