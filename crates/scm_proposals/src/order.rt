@@ -54,6 +54,13 @@ impl Order {
         self.window = WINDOW;
     }
 
+    /// Leaves no more fuel than this; what is held back.
+    pub(crate) fn hold_back(&mut self, kept: u64) -> u64 {
+        let held_back = self.fuel.saturating_sub(kept);
+        self.fuel = self.fuel.min(kept);
+        held_back
+    }
+
     pub(crate) fn burn(&mut self) -> Option<()> {
         self.fuel = self.fuel.checked_sub(1)?;
         Some(())

@@ -22,6 +22,9 @@ const FUEL_OF_SITUATION: u64 = 2;
 
 const LEAST_FUEL: u64 = 10_000;
 
+/// For how many situations of the limit a walk makes one visit more where it doesn't come on.
+const SITUATIONS_OF_PATIENCE: usize = 8;
+
 /// How many places of an earlier schedule are put together anew when all of it can't be kept: at first so many, then
 /// each time so many times more.
 const SHORTEST_TAIL: usize = 64;
@@ -109,9 +112,15 @@ impl Proposer<'_> {
 
     /// A walk to the end that goes on from so many places.
     fn walk(&self, kept: usize) -> Option<Walk> {
-        let mut walk = Walk::new(self.alloc, self.order(kept)?)?;
+        let mut walk = Walk::new(self.alloc, self.order(kept)?, self.patience())?;
         walk.make_all()?;
         Some(walk)
+    }
+
+    /// How many visits a walk makes at most where it doesn't come on.
+    fn patience(&self) -> u64 {
+        let patience = (self.limit / SITUATIONS_OF_PATIENCE) as u64;
+        patience.saturating_add(LEAST_FUEL)
     }
 
     /// A schedule that is made from nothing, by a beam.

@@ -10,6 +10,12 @@ use std::alloc::Global;
 /// How many visits the consequences of one write may take.
 const SHARE: u64 = 20_000;
 
+/// What an operation brings that is made when so many never were before: so much, and so much for each process. The walks
+/// that come to their end mostly burn less.
+const INCOME: u64 = 4;
+
+const INCOME_OF_PROCESS: u64 = 3;
+
 /// A walk, with all that is needed to take back what it made.
 #[derive(Drop)]
 pub(crate) struct Walk {
@@ -22,6 +28,9 @@ pub(crate) struct Walk {
     bars: Vec<Bar>,
     made: Vec<Made>,
     decisions: Vec<Decision>,
+    // The most operations that were made, and the fuel that is held back until there are more.
+    farthest: usize,
+    held_back: u64,
 }
 
 /// An operation that was made, and what its cell held before.
@@ -50,10 +59,12 @@ struct Decision {
 }
 
 impl Walk {
-    /// Before any operation, under an order that is saturated.
-    pub(crate) fn new(alloc: Global, mut order: Order) -> Option<Walk> {
+    /// Before any operation, under an order that is saturated. It may burn so much before it comes on at all, or where it
+    /// comes on no more.
+    pub(crate) fn new(alloc: Global, mut order: Order, patience: u64) -> Option<Walk> {
         order.begin_walk();
         order.share = SHARE;
+        let held_back = order.hold_back(patience);
         let memory = Memory::new(alloc, &order.facts)?;
         let awaited = Awaited::new(alloc, &order.facts)?;
         let barred = Numbers::zeros(alloc, order.facts.ops)?;
@@ -66,6 +77,8 @@ impl Walk {
             bars: Vec::new(alloc),
             made: Vec::new(alloc),
             decisions: Vec::new(alloc),
+            farthest: 0,
+            held_back,
         })
     }
 
@@ -75,6 +88,7 @@ impl Walk {
             if self.made.len() == self.order.facts.ops as usize {
                 return Some(());
             }
+            self.earn();
             self.order.burn()?;
             match self.choose() {
                 Some(choice) => self.try_out(choice)?,
@@ -82,6 +96,20 @@ impl Walk {
             }
         }
         None
+    }
+
+    // Gets some of the fuel that is held back where more operations are made than ever before.
+    fn earn(&mut self) {
+        if self.made.len() <= self.farthest {
+            return;
+        }
+        self.farthest = self.made.len();
+        let income = u64::from(self.order.facts.procs)
+            .saturating_mul(INCOME_OF_PROCESS)
+            .saturating_add(INCOME)
+            .min(self.held_back);
+        self.held_back = self.held_back.saturating_sub(income);
+        self.order.fuel = self.order.fuel.saturating_add(income);
     }
 
     // Makes an operation, and takes it back where its consequences contradict each other.
