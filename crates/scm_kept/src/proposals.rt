@@ -47,9 +47,9 @@ fn of_few_values(rt: &impl Abort, alloc: Global, seed: u64, accesses: u8) -> Seq
     sequences
 }
 
-/// Here all states of the beam die, and it finds a schedule after it went back. Of the first two neither one that begins anew
-/// each time nor one of a single width would find both; of the third only one that goes farther back the second time finds
-/// one; in the last they die at two places.
+/// Here all states of the beam die, and it finds a schedule after it went back. One that never goes back, or is made no wider,
+/// finds none of the four, one that always begins anew only the third, and one that goes equally far back each time all but
+/// that.
 #[test]
 fn a_beam_goes_back(rt: HostRuntime) {
     for (seed, accesses, room) in [

@@ -9,8 +9,8 @@ use crate::state::State;
 use indexmap::IndexSet;
 use std::alloc::Global;
 
-/// What a move burns, and what each operation burns that is made with it. A state that is new burns one for each two
-/// processes, since what one waits for may be written by each other.
+/// What a move burns, and what each operation burns that is made with it, its own write among them. A state that is new burns
+/// one for each pair of processes, since what one waits for may be written by each other.
 const FUEL_OF_MOVE: u64 = 14;
 
 const FUEL_OF_MADE: u64 = 4;

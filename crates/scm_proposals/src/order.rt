@@ -54,7 +54,7 @@ impl Order {
         self.window = WINDOW;
     }
 
-    /// Leaves no more fuel than this; what is held back.
+    /// Leaves at most so much fuel, and gives what it held back.
     pub(crate) fn hold_back(&mut self, kept: u64) -> u64 {
         let held_back = self.fuel.saturating_sub(kept);
         self.fuel = self.fuel.min(kept);

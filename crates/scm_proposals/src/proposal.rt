@@ -22,7 +22,7 @@ const FUEL_OF_SITUATION: u64 = 2;
 
 const LEAST_FUEL: u64 = 10_000;
 
-/// For how many situations of the limit a walk makes one visit more where it doesn't come on.
+/// For how many situations of the limit a walk makes one visit more where it makes no more operations than before.
 const SITUATIONS_OF_PATIENCE: usize = 8;
 
 /// How many places of an earlier schedule are put together anew when all of it can't be kept: at first so many, then
@@ -72,18 +72,18 @@ pub fn propose(
     let mut tail = 0;
     for _ in 0..usize::BITS {
         let kept = longest.len.saturating_sub(tail);
+        if kept == 0 {
+            return proposer.complete_from_nothing();
+        }
         if let Some(schedule) = proposer.complete(kept) {
             return Some(schedule);
-        }
-        if kept == 0 {
-            break;
         }
         tail = tail
             .saturating_mul(GROWTH)
             .max(longest.left(lengths))
             .max(SHORTEST_TAIL);
     }
-    proposer.complete_by_beam()
+    None
 }
 
 impl Proposer<'_> {
@@ -96,8 +96,22 @@ impl Proposer<'_> {
 
     /// A schedule that begins with so many places of the earlier one.
     fn complete(&self, kept: usize) -> Option<Vec<u8>> {
-        let walk = self.walk(kept)?;
+        let mut walk = self.walk(kept)?;
+        walk.make_all()?;
         self.schedule(kept, &walk)
+    }
+
+    /// A schedule that is made from nothing: by a walk, or else by a beam, if the order doesn't contradict itself.
+    fn complete_from_nothing(&self) -> Option<Vec<u8>> {
+        let mut walk = self.walk(0)?;
+        if walk.make_all().is_some() {
+            return self.schedule(0, &walk);
+        }
+        let fuel = fuel_of_beam(self.lengths, self.room);
+        if fuel == 0 {
+            return None;
+        }
+        complete_by_beam(self.alloc, &walk.order.facts, fuel)
     }
 
     /// So many places of the earlier schedule, and then the walk.
@@ -110,27 +124,15 @@ impl Proposer<'_> {
         Some(schedule)
     }
 
-    /// A walk to the end that goes on from so many places.
+    /// A walk that goes on from so many places.
     fn walk(&self, kept: usize) -> Option<Walk> {
-        let mut walk = Walk::new(self.alloc, self.order(kept)?, self.patience())?;
-        walk.make_all()?;
-        Some(walk)
+        Walk::new(self.alloc, self.order(kept)?, self.patience())
     }
 
-    /// How many visits a walk makes at most where it doesn't come on.
+    /// How many visits a walk makes at most where it makes no more operations than before.
     fn patience(&self) -> u64 {
         let patience = (self.limit / SITUATIONS_OF_PATIENCE) as u64;
         patience.saturating_add(LEAST_FUEL)
-    }
-
-    /// A schedule that is made from nothing, by a beam.
-    fn complete_by_beam(&self) -> Option<Vec<u8>> {
-        let fuel = fuel_of_beam(self.lengths, self.room);
-        if fuel == 0 {
-            return None;
-        }
-        let order = self.order(0)?;
-        complete_by_beam(self.alloc, &order.facts, fuel)
     }
 
     /// What comes before what after so many places.

@@ -10,8 +10,8 @@ use std::alloc::Global;
 /// How many visits the consequences of one write may take.
 const SHARE: u64 = 20_000;
 
-/// What an operation brings that is made when so many never were before: so much, and so much for each process. The walks
-/// that come to their end mostly burn less.
+/// What a walk gets of the fuel that is held back each time that it makes more operations than ever before: so much, and so
+/// much for each process. Walks that come to their end burn less on the whole.
 const INCOME: u64 = 4;
 
 const INCOME_OF_PROCESS: u64 = 3;
@@ -28,8 +28,9 @@ pub(crate) struct Walk {
     bars: Vec<Bar>,
     made: Vec<Made>,
     decisions: Vec<Decision>,
-    // The most operations that were made, and the fuel that is held back until there are more.
+    // The most operations that were made, how much fuel there may be at a time, and what is held back of it.
     farthest: usize,
+    patience: u64,
     held_back: u64,
 }
 
@@ -59,8 +60,8 @@ struct Decision {
 }
 
 impl Walk {
-    /// Before any operation, under an order that is saturated. It may burn so much before it comes on at all, or where it
-    /// comes on no more.
+    /// Before any operation, under an order that is saturated. Where it makes no more operations than before, it burns no more
+    /// than `patience`.
     pub(crate) fn new(alloc: Global, mut order: Order, patience: u64) -> Option<Walk> {
         order.begin_walk();
         order.share = SHARE;
@@ -78,6 +79,7 @@ impl Walk {
             made: Vec::new(alloc),
             decisions: Vec::new(alloc),
             farthest: 0,
+            patience,
             held_back,
         })
     }
@@ -107,7 +109,8 @@ impl Walk {
         let income = u64::from(self.order.facts.procs)
             .saturating_mul(INCOME_OF_PROCESS)
             .saturating_add(INCOME)
-            .min(self.held_back);
+            .min(self.held_back)
+            .min(self.patience.saturating_sub(self.order.fuel));
         self.held_back = self.held_back.saturating_sub(income);
         self.order.fuel = self.order.fuel.saturating_add(income);
     }
