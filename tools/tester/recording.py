@@ -2,8 +2,8 @@
 from dataclasses import dataclass, replace
 
 from model.machine import OPEN, Machine, Trace, asked_by
-from tester.monitor import Stop
-from tester.runs import QUESTIONS
+from tester.monitor import Stop, replies_to
+from tester.runs import QUESTIONS, chosen, lines_with_replies, runs_of, verdict_of
 
 
 @dataclass
@@ -90,3 +90,20 @@ def recorded(run, question):
     mark = asked_by(question.text)[1][2] if question else None
     lengths = trace.lengths(mark)
     return whole.only((p, k) for p, length in enumerate(lengths) for k in range(length))
+
+
+def question_of(program, script, name=None, number=None):
+    """The trace of a script that is asked about: by the question on this line, or by the last one that was answered."""
+    runs = runs_of(lines_with_replies(script, replies_to(program, script)))
+    if number is not None:
+        asked = [(run, line) for run in runs for line in run.questions if line.number == number and name in (None, run.name)]
+        if not asked:
+            raise Stop(f"no question{f' about {name}' if name else ''} was answered on line {number}")
+        recording = recorded(*asked[0])
+    else:
+        run = chosen(runs, name)
+        answered = [line for line in run.questions if verdict_of(line) != "unknown"]
+        recording = recorded(run, (answered or run.questions or [None])[-1])
+    if not recording.operations:
+        raise Stop(f"trace {recording.name} has no operations")
+    return recording

@@ -193,6 +193,20 @@ class Shrinking:
         return replace(self.recording, trace=replace(self.recording.trace, sequences=sequences))
 
 
+def smallest(recording, judge, tries, tell=lambda count: None):
+    """The smallest of several: each time the search begins anew without a load that the last one ended with."""
+    best = found = Shrinking(recording, judge, tell).run()
+    for _ in range(tries):
+        loads = {line for line, (kind, *_) in at_lines(recording).items() if kind == "R"}
+        named = [number for number in at_lines(found) if number in loads]
+        recording = recording.only(at for at in recording.operations if recording.lines[at[0]][at[1]].number not in named[-1:])
+        if not named or judge.orders(recording) is None:
+            break
+        found = Shrinking(recording, judge, tell).run()
+        best = min(best, found, key=lambda it: len(it.operations))
+    return best
+
+
 def renamed(recording):
     """The same without idle processes and cells, under short names, and what stands for what: each cell's name, each process."""
     trace = recording.trace
