@@ -4,7 +4,7 @@ from dataclasses import dataclass
 BADGE = 9  # half of a number's height
 BESIDE = 15  # from an arrow straight down to its number
 TIP = 3  # from an arrow's end to its box
-PLACES = (0.5, 0.42, 0.58, 0.35, 0.65, 0.28, 0.72, 0.2, 0.8, 0.14, 0.86)
+PLACES = sorted((n / 40 for n in range(5, 36)), key=lambda t: abs(t - 0.5))
 
 
 @dataclass
@@ -55,7 +55,7 @@ class Router:
             for at, other in ((arrow.start, arrow.end), (arrow.end, arrow.start)):
                 self.ends.setdefault((at, self.side_of(at, other)), []).append(arrow)
         for (at, _), there in self.ends.items():
-            there.sort(key=lambda arrow, at=at: (self.other_end(arrow, at).middle, arrow.number))
+            there.sort(key=lambda arrow, at=at: (self.other_end(arrow, at).middle, arrow.number))  # one to itself stands there twice
 
     def other_end(self, arrow, at):
         return self.boxes[arrow.end if arrow.start == at else arrow.start]
@@ -82,15 +82,15 @@ class Router:
     def port(self, arrow, at, side):
         """Where on this side of the box the arrow ends."""
         box, there = self.boxes[at], self.ends[at, side]
-        room = min(10, (box.height - 8) / max(len(there) - 1, 1))
+        room = min(11, (box.height - 6) / max(len(there) - 1, 1))
         return box.middle + (there.index(arrow) - (len(there) - 1) / 2) * room
 
     def points(self, arrow, bulges):
         start, end = self.boxes[arrow.start], self.boxes[arrow.end]
         side = self.side_of(arrow.start, arrow.end)
         if arrow.start == arrow.end:
-            x, y = start.side(side), start.middle
-            return (x, y - 6), (x + 52, y - 30), (x + 52, y + 30), (x + TIP, y + 6)
+            x, y = start.side(side), self.port(arrow, arrow.start, side)
+            return (x, y), (x + 52, y - 22), (x + 52, y + 34), (x + TIP, y + 11)
         if side == 0:
             return self.straight(arrow, start, end)
         back = self.side_of(arrow.end, arrow.start)
@@ -117,11 +117,19 @@ class Router:
         bulges.append((lane, side, top, bottom, level))
         return 16 + 20 * level
 
+    def reach(self):
+        """From where to where arrows and numbers go, from side to side."""
+        across = [x for arrow in self.arrows for x, _ in (*map(arrow.at, (0.25, 0.5, 0.75)), arrow.label)]
+        return min(across, default=0) - 2 * BADGE, max(across, default=0) + 2 * BADGE
+
     def free_place(self, arrow, taken):
         """The place of the arrow's number: on its curve, off the boxes and the other numbers where that can be."""
+        top, *_, bottom = sorted(y for _, y in arrow.points)
+        near = [box for box in self.boxes.values() if box.y < bottom + 2 * BADGE and box.y + box.height > top - 2 * BADGE]
+
         def crowd(t):
             x, y = arrow.at(t)
-            hidden = sum(box.is_near(x, y, BADGE) for box in self.boxes.values())
+            hidden = sum(box.is_near(x, y, BADGE) for box in near)
             close = sum(max(0, 2 * BADGE + 2 - max(abs(x - a), abs(y - b))) for a, b in taken)
             return hidden * 100 + close
         return arrow.at(min(PLACES, key=crowd))

@@ -6,9 +6,9 @@ from tester.arrows import BADGE, Arrow, Box, Router
 from tester.reasons import place
 
 CHARACTER, SMALL = 7.6, 6.3  # widths
-HEIGHT = 28  # of a box
+HEIGHT, HEAD = 28, 38  # of a box, and of the lanes' names
 LONGEST = 34  # characters of a label
-COLOURS, STYLES = 8, 3
+COLOURS, STYLES, ALIKE = 8, 3, 4  # of cells; and how many stand in a row with one style of line
 KINDS = {"R": "read", "W": "write", "RW": "both"}
 
 
@@ -39,7 +39,7 @@ def told(recording, at):
 
 
 class Colours:
-    """A colour for each cell, and a style of line where there are more cells than colours: first for those that are named."""
+    """A colour and a style of line for each cell, so that no two are told apart by likely confusions of colours alone: first for those that are named."""
 
     def __init__(self, recording, named):
         used = dict.fromkeys(recording.operation(at)[1] for at in [*named, *recording.operations])
@@ -48,8 +48,7 @@ class Colours:
 
     def of(self, cell):
         number = self.numbers[cell]
-        style = number // COLOURS
-        return f"c{number % COLOURS} s{style}" if style < STYLES else "c-other"
+        return f"c{number % COLOURS} s{number // ALIKE % STYLES}" if number < COLOURS * STYLES else "c-other"
 
 
 class Drawing:
@@ -61,19 +60,18 @@ class Drawing:
         drawn = [item for items in lanes for item in items]
         self.places = max((len(place(item.at)) for item in drawn), default=3) * SMALL
         widest = max((len(label(recording, item.at)) for item in drawn if not item.is_fold), default=0)
-        self.width = max(24 + self.places + widest * CHARACTER, 110)
-        outer = next((lane for lane, items in enumerate(lanes) if items), 0)
-        bulges = sum(order.start[0] == order.end[0] == outer and abs(order.start[1] - order.end[1]) > 1 for order in orders)
-        self.left = max(44 if is_numbered else 12, min(bulges, 9) * 16 + 20 if bulges else 0)
-        self.gap = gap
+        self.width, self.gap = max(32 + self.places + widest * CHARACTER, 110), gap
         self.columns = {lane: column for column, lane in enumerate(it for it, items in enumerate(lanes) if items)}
         self.boxes = {item.at: self.box(item, index) for items in lanes for index, item in enumerate(items)}
-        self.height = (max((item.row for item in drawn), default=0) + 1) * pitch + 8
-        self.whole_width = self.left + len(self.columns) * (self.width + gap) + (24 if orders else 8 - gap)
-        self.arrows = Router(self.boxes, [Arrow(order.number, order.start, order.end) for order in orders]).run()
+        self.height = (max((item.row for item in drawn), default=0) + 1) * pitch + 4
+        router = Router(self.boxes, [Arrow(order.number, order.start, order.end) for order in orders])
+        self.arrows = router.run()
+        left, right = router.reach()
+        self.left = min(left, -44 if is_numbered else -4)
+        self.right = max(right, len(self.columns) * (self.width + gap) - gap + 4)
 
     def x(self, lane):
-        return self.left + self.columns[lane] * (self.width + self.gap)
+        return self.columns[lane] * (self.width + self.gap)
 
     def box(self, item, index):
         return Box(self.x(item.process), 4 + item.row * self.pitch, self.width, HEIGHT, self.columns[item.process], index)
@@ -86,11 +84,14 @@ class Drawing:
             sessions = {line.words[0] for line in self.recording.lines[lane]}
             texts.append(element("text", f"process {lane}", x=x, y=16, class_="head"))
             texts.append(element("text", shortened(" ".join(sorted(sessions)), int(self.width / SMALL)), x=x, y=31, class_="session"))
-        return self.picture(38, *texts, class_="heads", aria_hidden="true")
+        return self.picture(HEAD, *texts, class_="heads", aria_hidden="true")
 
     def picture(self, height, *children, **attributes):
-        width = round(self.whole_width)
-        return element("svg", *children, xmlns="http://www.w3.org/2000/svg", width=width, height=round(height), viewBox=f"0 0 {width} {round(height)}", **attributes)
+        return element("svg", *children, xmlns="http://www.w3.org/2000/svg", width=round(self.whole_width), height=height, viewBox=f"{self.left:.1f} 0 {self.whole_width:.1f} {height}", **attributes)
+
+    @property
+    def whole_width(self):
+        return self.right - self.left
 
     def body(self, name):
         return self.picture(self.height, *self.parts(), class_="body", role="group", aria_label=name)
@@ -106,7 +107,7 @@ class Drawing:
         for items in self.lanes:
             yield from (self.fold(item) if item.is_fold else self.operation(item) for item in items)
         if self.is_numbered:
-            yield from (element("text", str(item.row + 1), x=self.left - 12, y=self.boxes[item.at].middle + 4, class_="row") for items in self.lanes for item in items if not item.is_fold and not self.pale(item.at))
+            yield from (element("text", str(item.row + 1), x=-12, y=self.boxes[item.at].middle + 4, class_="row") for items in self.lanes for item in items if not item.is_fold and not self.pale(item.at))
         yield from (self.badge(arrow, order) for arrow, order in zip(self.arrows, self.orders))
         yield element("path", d="M0 0", class_="seen")
 

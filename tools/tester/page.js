@@ -6,6 +6,16 @@ const all = (query, root = lanes) => [...root.querySelectorAll(query)];
 const op = (at) => lanes.querySelector(`[data-op="${at}"]`);
 let pinned = null;
 
+// Moves the lanes, and nothing else of the page, so that an operation is in sight.
+function reveal(at) {
+  const it = op(at)?.getBoundingClientRect();
+  if (!it) return;
+  const frame = lanes.getBoundingClientRect();
+  const top = frame.top + lanes.querySelector(".heads").getBoundingClientRect().height;
+  const by = (low, high, from, to) => (low < from ? low - from - 12 : high > to ? high - to + 24 : 0);
+  lanes.scrollBy(by(it.left, it.right, frame.left, frame.right), by(it.top, it.bottom, top, frame.bottom));
+}
+
 // Marks an order and what it rests on, in the figure and in the list.
 function showOrder(number) {
   const order = data.orders[number];
@@ -36,7 +46,7 @@ function pin(choice) {
   pinned = choice === pinned ? null : choice;
   for (const it of choices) it.setAttribute("aria-pressed", String(it === pinned));
   show(pinned);
-  if (pinned && data.orders) op(data.orders[Number(pinned.dataset.order)].ops[0])?.scrollIntoView({ block: "nearest", inline: "nearest" });
+  if (pinned && data.orders) data.orders[Number(pinned.dataset.order)].ops.slice().reverse().forEach(reveal);
 }
 
 choices.forEach((choice, number) => {
@@ -92,7 +102,7 @@ function step() {
     it.classList.toggle("pale", count > 0 && !done.has(it.dataset.op));
     it.classList.toggle("now", Boolean(last) && it.dataset.op === last[0]);
   }
-  if (last) op(last[0])?.scrollIntoView({ block: "nearest", inline: "nearest" });
+  if (last) reveal(last[0]);
   showSeen(last?.[0]);
 }
 

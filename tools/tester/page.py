@@ -2,12 +2,16 @@
 from html import escape
 import json
 import os
+import textwrap
 
-from tester.drawing import element, first_contents
+from tester.drawing import HEAD, SMALL, element, first_contents
+from tester.reasons import place
 from tester.views import swatch
 
 HERE = os.path.dirname(os.path.abspath(__file__))
 MOST_DERIVED = 6  # joined orders that are drawn at first
+MARGIN, LINE, WORDS, BESIDE = 12, 16, 84, 420  # of a picture of its own: pixels, characters of a line, and up to which width words stand beside it
+PAPER = 680, 700  # how wide and high a figure is printed
 SIGNS = {"consistent": "\u2713", "inconsistent": "\u2717", "undecided": "?"}
 
 
@@ -62,7 +66,12 @@ def figure(view, title):
         notes.append(element("template", whole.heads(), whole.body(title), id="all"))
     elif any(item.is_fold for items in drawn.lanes for item in items):
         notes.append(element("p", "More operations than a page draws: those that aren't drawn here are in the script."))
-    return element("figure", element("figcaption", *notes), element("div", drawn.heads(), drawn.body(title), class_="lanes", tabindex=0, role="region", aria_label="Lanes"))
+    return element("figure", element("figcaption", *notes), element("div", drawn.heads(), drawn.body(title), class_="lanes", tabindex=0, role="region", aria_label="Lanes", style=f"--print: {printed(drawn):.2f}"))
+
+
+def printed(drawn):
+    """By how much a figure is made smaller so that it fits on paper."""
+    return max(0.4, min(1, PAPER[0] / drawn.whole_width, PAPER[1] / drawn.height))
 
 
 def legend(view):
@@ -78,9 +87,26 @@ def legend(view):
 
 
 def alone(view, title):
-    """The figure as a picture of its own."""
+    """The figure as a picture of its own, with the orders in words below it."""
     drawn = view.figure
-    heads, body = drawn.heads(), drawn.body(title)
-    width, height = round(drawn.whole_width), round(drawn.height) + 38
-    style = element("style", file("figure.css"))
-    return element("svg", style, heads, body.replace("<svg ", '<svg y="38" ', 1), xmlns="http://www.w3.org/2000/svg", width=width, height=height, viewBox=f"0 0 {width} {height}", class_="alone") + "\n"
+    lines = [line for order in drawn.orders for line in wrapped(order)]
+    is_beside = drawn.whole_width < BESIDE
+    left, top = (drawn.whole_width + 3 * MARGIN, HEAD + MARGIN) if is_beside else (MARGIN, HEAD + drawn.height + 2 * MARGIN)
+    width = round(max(drawn.whole_width + MARGIN, left + max(map(len, lines), default=0) * SMALL) + MARGIN)
+    height = round(max(HEAD + drawn.height + 2 * MARGIN, top + len(lines) * LINE + MARGIN))
+    texts = (element("text", escape(line), x=f"{left:.0f}", y=top + number * LINE + 12, class_="said") for number, line in enumerate(lines))
+    return element(
+        "svg",
+        element("title", escape(title)),
+        element("style", file("figure.css")),
+        element("rect", width=width, height=height, rx=8, class_="paper"),
+        element("g", drawn.heads(), transform=f"translate({MARGIN} {MARGIN})"),
+        element("g", drawn.body(title), transform=f"translate({MARGIN} {MARGIN + HEAD})"),
+        *texts,
+        xmlns="http://www.w3.org/2000/svg", width=width, height=height, viewBox=f"0 0 {width} {height}", role="img",
+    ) + "\n"
+
+
+def wrapped(order):
+    head = f"{order.number:>3}  {place(order.start)} < {place(order.end)}  "
+    return textwrap.wrap(order.words, WORDS, initial_indent=head, subsequent_indent=" " * len(head))

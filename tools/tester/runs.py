@@ -1,23 +1,22 @@
 """The traces of a script, by its lines and their replies."""
 from dataclasses import dataclass, field
+from functools import cached_property
 
 from model.machine import LONGEST_LINE, Machine, asked_by, lines_of
 from tester.monitor import Stop
 
 QUESTIONS = ("ask", "why", "cycle")
 VERDICTS = {"consistent": "consistent", "inconsistent": "inconsistent", "because": "inconsistent", "cycle": "inconsistent", "undecided": "undecided", "unknown": "unknown"}
-WORST_FIRST = ("inconsistent", "undecided", "unknown", "consistent")
 
 
-@dataclass
 class Line:
-    number: int  # of the script, from 1
-    text: bytes
-    reply: str  # without the session's name
+    """A line of the script that has a reply, which stands here without the session's name."""
 
-    @property
-    def words(self):
-        return self.text.decode("latin-1").split()
+    __slots__ = ("number", "text", "words", "reply")
+
+    def __init__(self, number, text, reply):
+        self.number, self.text, self.reply = number, text, reply
+        self.words = text.decode("latin-1").split()
 
     @property
     def is_refused(self):
@@ -31,17 +30,21 @@ class Run:
     name: str
     lines: list = field(default_factory=list)
 
-    @property
+    @cached_property
     def questions(self):
         return [line for line in self.lines if line.words[1] in QUESTIONS and not line.is_refused]
 
-    @property
+    @cached_property
     def refused(self):
         return [line for line in self.lines if line.is_refused]
 
     @property
+    def operations(self):
+        return sum(line.words[1] == "do" and line.reply == "ok" for line in self.lines)
+
+    @cached_property
     def verdict(self):
-        """The last verdict about the trace as it stood at the end of its lines, or `none`: one of `cycle` counts where `ask` has no answer."""
+        """The last answer to a question about the trace; `unknown` counts where there is no other, and where nothing was asked it is `none`."""
         verdicts = [verdict_of(line) for line in self.questions]
         asked = [it for it in verdicts if it != "unknown"] or verdicts
         return asked[-1] if asked else "none"

@@ -71,7 +71,7 @@ def refuted(recording, orders, answer):
     colours = Colours(recording, sorted(named))
     pairs = [(order.start, order.end) for order in orders]
     figure, whole = figures(recording, colours, named, ROOMY, lambda lanes: place_by_orders(lanes, pairs), orders=orders, pale=lambda at: at not in named)
-    words = f"No interleaving explains it: these {len(orders)} orders hold in every legal schedule, and the last one can't."
+    words = "No interleaving explains it: each order of the list holds in every legal schedule, and the last one can't."
     if answer == "undecided":
         words += " (By its situations alone the question is undecided within the budget.)"
     panel = listed((order_line(order) for order in orders), class_="orders", start=0)
