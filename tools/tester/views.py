@@ -5,6 +5,7 @@ import re
 
 from tester.drawing import Colours, Drawing, element, first_contents, label
 from tester.layout import lanes_of, lanes_with, place_by_orders, place_by_schedule, whole_lanes
+from tester.progress import Progress
 from tester.reasons import orders_of, place
 
 SMALL = 60  # operations that are drawn at once
@@ -216,32 +217,32 @@ def stuck_line(recording, number, counts, contents):
 # ---- nothing known
 
 def undecided(recording, monitor):
-    count, answer = furthest(recording, monitor)
+    count, next_answer = furthest(recording, monitor)
     operations = recording.operations
-    words = answer.split(" ")
-    schedule = [int(word) for word in words[2:2 + int(words[1])]]
     steps = set(operations[:count])
     near = frontier(recording, operations[:count])
     colours = Colours(recording, sorted(near))
     figure, whole = figures(recording, colours, near, CLOSE, rows_by_place, pale=lambda at: at not in steps)
     budget = recording.trace.budget
     said = f"Nothing is known of the whole, and nothing is wrong with the trace: more than {budget} situations can be reached, no legal schedule was proposed, and no short refutation was found."
-    panel = element("div", *undecided_words(recording, count, len(schedule), budget))
+    panel = element("div", *undecided_words(recording, count, next_answer))
     return View("undecided", said, colours, figure, whole, panel)
 
 
 def furthest(recording, monitor):
-    """A number of first reports that make a consistent trace, where one more makes none that is known to be."""
-    operations = recording.operations
-    good, bad, answer = 0, len(operations), "consistent 0"
+    """A number of first reports that make a consistent trace, where one more makes none that is known to be, and the answer about that."""
+    operations, progress = recording.operations, Progress("picture")
+    good, bad, next_answer = 0, len(operations), "undecided"
     while bad - good > 1:
         half = (good + bad) // 2
+        progress.show(0, f"between {good} and {bad} reports it is no longer known to be consistent")
         tried, = recording.only(operations[:half]).ask(monitor, "ask")
         if tried.startswith("consistent"):
-            good, answer = half, tried
+            good = half
         else:
-            bad = half
-    return good, answer
+            bad, next_answer = half, tried
+    progress.end()
+    return good, next_answer
 
 
 def frontier(recording, done):
@@ -252,9 +253,10 @@ def frontier(recording, done):
     return {(p, k) for p, count in enumerate(counts) for k in (count - 1, count) if 0 <= k < recording.lengths[p]}
 
 
-def undecided_words(recording, count, scheduled_count, budget):
-    line = recording.lines[recording.operations[count][0]][recording.operations[count][1]]
-    yield element("p", f"The first {scheduled_count} of {len(recording.operations)} reports are consistent. With one more, line {line.number}, they aren't known to be: look there first. In the figure what comes later is pale.")
+def undecided_words(recording, count, next_answer):
+    process, place_of_next = recording.operations[count]
+    line, budget = recording.lines[process][place_of_next], recording.trace.budget
+    yield element("p", f"The first {count} of {len(recording.operations)} reports are consistent. With one more, line {line.number}, they are {next_answer}: look there first. In the figure that one and what comes later is pale.")
     yield element("p", element("strong", "What to try next"))
     tries = []
     if budget < MOST_BUDGET:
