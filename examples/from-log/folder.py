@@ -24,7 +24,7 @@ sys.path.insert(0, TOOLS)
 
 from tester.monitor import Monitor, Stop, add_program, read_script, run_tool
 from tester.progress import Progress
-from tester.runs import lines_with_replies, runs_of
+from tester.runs import has_reply, lines_with_replies, runs_of
 
 WORST = 3
 ORDER = ("inconsistent", "refused", "no script", "undecided", "consistent")
@@ -58,13 +58,20 @@ class Runner:
     def verdict(self, name, script):
         if not hasattr(self.own, "monitor"):
             self.own.monitor = Monitor(self.program)
-        calls = [*script.decode().splitlines(), "log close sim"]
-        replies = [f"- {reply}" for reply in self.own.monitor.replies(calls)]
-        run, = runs_of(lines_with_replies("\n".join(calls).encode(), replies)) or [None]
-        if run is None or run.refused:
-            line = run.refused[0] if run else None
-            return Row(name, "refused", run.operations if run else 0, f"line {line.number}: {line.reply}" if line else replies[0])
-        return Row(name, run.verdict, run.operations)
+        calls = [line.decode() for line in script.split(b"\n") if has_reply(line)]
+        if not calls:
+            return Row(name, "no script", note="to_script.py printed nothing")
+        session, _, trace = calls[0].split()[:3]
+        replies = self.own.monitor.replies([*calls, f"{session} close {trace}"])
+        if replies[-1] != "ok":
+            self.own.monitor.begin()
+        lines = lines_with_replies(script, [f"{session} {reply}" for reply in replies[:-1]])
+        runs = runs_of(lines)
+        operations = sum(run.operations for run in runs)
+        for line in lines:
+            if line.is_refused:
+                return Row(name, "refused", operations, f"line {line.number}: {line.reply}")
+        return Row(name, runs[-1].verdict, operations)
 
 
 def arguments():
@@ -119,7 +126,7 @@ def main():
         row.note = shrink(options, row)
     for row in rows:
         if row.verdict != "consistent":
-            print(f"{row.name}: {row.verdict}, {row.operations} operations{f'; {row.note}' if row.note else ''}")
+            print(f"{row.name}: {row.verdict}", *([f"{row.operations} operations"] if row.operations else []), *([row.note] if row.note else []), sep=", ")
     sys.stdout.flush()
     sys.exit(next((STATUSES[it] for it in ("refused", "no script", "inconsistent", "undecided") if counts[it]), 0))
 

@@ -1,8 +1,7 @@
 """Makes an inconsistent trace smaller, so that the inconsistency of the smaller one shows that of the larger.
 
-Where a legal schedule of the larger trace always leaves one of the smaller, a smaller one without any shows that the larger
-has none. A schedule loses the operations that go. What stays is legal where each read that stays still has the last write
-before it: so a write may go where no operation that stays reads its value from its cell. All steps are of this kind:"""
+A legal schedule of the larger trace, without the operations that went, is one of the smaller: each read that stays still
+has the same write before it, since no operation that stays reads a value that a write which went has left in its cell."""
 from dataclasses import dataclass, replace
 
 from model.machine import OPEN
@@ -10,17 +9,17 @@ from tester.monitor import Stop
 from tester.reasons import orders_of
 
 LAWS = {
-    "cells": "a cell goes with all its accesses: what was read from the others is still what was written there",
+    "cells": "a cell goes with all its accesses: what is read from the others was written there",
     "loads": "a load goes: nobody sees a load",
-    "stores": "a store goes whose value no operation that stays reads from its cell: nobody saw it",
-    "read-and-writes": "a read-and-write goes where no operation that stays reads what it wrote: it is a load and a store",
-    "read-and-writes that are stores now": "a read-and-write becomes a store: its read goes, as a load does",
-    "read-and-writes that are loads now": "a read-and-write becomes a load where no operation that stays reads what it wrote: its write goes, as a store does",
+    "stores": "a store goes whose value no operation that stays reads from its cell: none of them saw it",
+    "read-and-writes": "a read-and-write goes, as a load and a store, where no operation that stays reads what it wrote",
+    "read-and-writes that became stores": "the read of a read-and-write goes, as a load does",
+    "read-and-writes that became loads": "the write of a read-and-write goes, as a store does",
     "processes": "a process without operations goes",
-    "names": "cells get short names, and the values of each cell, one by one: a schedule is as legal as before",
+    "names": "cells get short names, and so do values, each cell's one by one: a schedule stays as legal as it was",
 }
 GONE = {"R": "loads", "W": "stores", "RW": "read-and-writes"}
-WEAKER = {"W": "read-and-writes that are stores now", "R": "read-and-writes that are loads now"}
+WEAKER = {"W": "read-and-writes that became stores", "R": "read-and-writes that became loads"}
 LEAST_BUDGET, MOST_BUDGET = 10_000, 1_000_000
 SHORT_NAMES = "xyzuvw"
 

@@ -14,7 +14,7 @@ WINDOW = 400  # operations of a schedule that are drawn at first
 MOST_DRAWN = 20_000  # operations that a page has at all
 MOST_STUCK = 12  # situations that a page tells of
 MOST_BUDGET = 1_000_000
-ROOMY, CLOSE = (56, 76), (34, 26)  # from row to row, from lane to lane
+ROOMY, CLOSE = (56, 66), (34, 26)  # from row to row, from lane to lane
 
 
 @dataclass
