@@ -16,8 +16,6 @@ import subprocess
 import sys
 import threading
 
-sys.dont_write_bytecode = True  # examples/ is compared file by file
-
 HERE = os.path.dirname(os.path.realpath(__file__))
 TOOLS = os.path.join(HERE, "../../tools")
 sys.path.insert(0, TOOLS)

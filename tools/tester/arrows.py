@@ -4,7 +4,7 @@ from dataclasses import dataclass
 BADGE = 9  # half of a number's height
 BESIDE = 15  # from an arrow straight down to its number
 TIP = 3  # from an arrow's end to its box
-PLACES = sorted((n / 40 for n in range(5, 36)), key=lambda t: abs(t - 0.5))
+PLACES = sorted((n / 40 for n in range(3, 38)), key=lambda t: abs(t - 0.5))
 
 
 @dataclass
@@ -23,8 +23,9 @@ class Box:
     def side(self, towards):
         return self.x + self.width if towards > 0 else self.x
 
-    def is_near(self, x, y, margin):
-        return self.x - margin < x < self.x + self.width + margin and self.y - margin < y < self.y + self.height + margin
+    def is_near(self, x, y, across):
+        """Whether a number so wide, with its middle here, would touch the box."""
+        return self.x - across < x < self.x + self.width + across and self.y - BADGE - 2 < y < self.y + self.height + BADGE + 2
 
 
 @dataclass
@@ -35,6 +36,11 @@ class Arrow:
     points: tuple = ()  # of a cubic curve
     label: tuple = ()
     beside: float = 0  # how far right of its curve the number stands
+
+    @property
+    def half(self):
+        """Half of its number's width."""
+        return max(BADGE, len(str(self.number)) * 4 + 4)
 
     @property
     def path(self):
@@ -129,7 +135,7 @@ class Router:
 
         def crowd(t):
             x, y = arrow.at(t)
-            hidden = sum(box.is_near(x, y, BADGE) for box in near)
+            hidden = sum(box.is_near(x, y, arrow.half + 2) for box in near)
             close = sum(max(0, 2 * BADGE + 2 - max(abs(x - a), abs(y - b))) for a, b in taken)
             return hidden * 100 + close
         return arrow.at(min(PLACES, key=crowd))

@@ -146,11 +146,10 @@ class Drawing:
 
     def badge(self, arrow, order):
         x, y = arrow.label
-        half = max(BADGE, len(str(order.number)) * 4 + 4)
         return element(
             "g",
             element("title", escape(f"order {order.number}: {order.words}")),
-            element("rect", x=f"{x - half:.1f}", y=f"{y - BADGE:.1f}", width=2 * half, height=2 * BADGE, rx=BADGE),
+            element("rect", x=f"{x - arrow.half:.1f}", y=f"{y - BADGE:.1f}", width=2 * arrow.half, height=2 * BADGE, rx=BADGE),
             element("text", str(order.number), x=f"{x:.1f}", y=f"{y + 4:.1f}"),
             class_=f"badge {kind_of(order)}", data_order=order.number,
         )

@@ -49,10 +49,11 @@ def head(recording, view, source):
     yield element("h1", sign, f"Trace <code>{escape(recording.name)}</code> is {view.verdict}", class_=view.verdict)
     yield element("p", escape(view.words), class_="words")
     asked = f", as line {recording.question.number} asks: {recording.question.text.decode().strip()}" if recording.question else ""
-    yield element("p", escape(f"{len(recording.operations)} operations of {len(trace.sequences)} processes on {len(trace.names)} cells, budget {trace.budget}. {source}{asked}"), class_="facts")
+    size = ", ".join(f"{name}: {count}" for name, count in (("operations", len(recording.operations)), ("processes", len(trace.sequences)), ("cells", len(trace.names)), ("budget", trace.budget)))
+    yield element("p", escape(f"{size}. {source}{asked}"), class_="facts")
     if recording.refused:
         line = recording.refused[0]
-        yield element("p", escape(f"{len(recording.refused)} lines about this trace were refused, first line {line.number} ({line.reply}): it is the trace without them."), class_="warning")
+        yield element("p", escape(f"Lines about this trace were refused, the first one on line {line.number} ({line.reply}): it is the trace without these."), class_="warning")
 
 
 def figure(view, title):
@@ -60,7 +61,7 @@ def figure(view, title):
     notes = [legend(view)]
     if view.derived:
         checked = "checked" if view.derived <= MOST_DERIVED else None
-        notes.append(element("label", element("input", type="checkbox", id="derived", checked=checked), f" with the {view.derived} joined orders"))
+        notes.append(element("label", element("input", type="checkbox", id="derived", checked=checked), f" joined orders too ({view.derived})"))
     if whole:
         notes.append(element("button", f"Draw all {len(whole.boxes)} operations", type="button", id="whole"))
         notes.append(element("template", whole.heads(), whole.body(title), id="all"))

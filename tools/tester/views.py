@@ -1,5 +1,6 @@
 """What a page shows of a verdict: a figure, and beside it a panel that explains it."""
 from dataclasses import dataclass, field
+import heapq
 from html import escape
 import re
 
@@ -162,14 +163,13 @@ def swatch(colour):
 # ---- all situations
 
 def stuck(recording, why):
-    situations = [situation_of(word) for word in why.split(" ")[2:]]
-    most = [max(counts[p] for counts, _ in situations) for p in range(len(recording.lengths))]
-    ends = sorted((it for it in situations if not goes_on(recording, *it)), key=lambda it: -sum(it[0]))[:MOST_STUCK]
+    most, ends = ends_of(recording, why)
     near = {(p, k) for counts, _ in [*ends, (most, None)] for p, count in enumerate(counts) for k in (count - 1, count) if 0 <= k < recording.lengths[p]}
     colours = Colours(recording, sorted(near))
     done = ends[0][0]
     figure, whole = figures(recording, colours, near, CLOSE, rows_by_place, pale=lambda at: at[1] > done[at[0]])
-    words = f"No interleaving explains it: {len(situations)} situations can be reached, and in none of them all {len(recording.operations)} operations are done."
+    count = why.split(" ", 2)[1]
+    words = f"No interleaving explains it: {count} situations can be reached, and in none of them all {len(recording.operations)} operations are done."
     beyond = element("p", escape("At most: " + "; ".join(f"process {p} does {count} of {recording.lengths[p]}" for p, count in enumerate(most)) + "."))
     panel = element("div", beyond, element("p", "Where all are stuck, the furthest first:"), listed((stuck_line(recording, number, *it) for number, it in enumerate(ends)), class_="orders"))
     return View("inconsistent", words, colours, figure, whole, panel, {"stuck": [list(counts) for counts, _ in ends]})
@@ -181,9 +181,15 @@ def rows_by_place(lanes):
             item.row = row
 
 
-def situation_of(word):
-    counts, _, contents = word.partition("/")
-    return tuple(map(int, counts.split(","))), contents.split(",")
+def ends_of(recording, why):
+    """How far each process gets at most, and the situations in which all are stuck, the furthest ones. There may be a million of all."""
+    most, ends = [0] * len(recording.lengths), []
+    for word in re.finditer(r"([\d,]+)/([\d,?]+)", why):
+        counts, contents = tuple(map(int, word[1].split(","))), word[2].split(",")
+        most = list(map(max, most, counts))
+        if not goes_on(recording, counts, contents):
+            ends.append((counts, contents))
+    return most, heapq.nlargest(MOST_STUCK, ends, key=lambda it: sum(it[0]))
 
 
 def blocked(recording, counts, contents):
