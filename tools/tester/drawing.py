@@ -60,7 +60,7 @@ class Drawing:
         drawn = [item for items in lanes for item in items]
         self.places = max((len(place(item.at)) for item in drawn), default=3) * SMALL
         widest = max((len(label(recording, item.at)) for item in drawn if not item.is_fold), default=0)
-        self.width, self.gap = max(32 + self.places + widest * CHARACTER, 110), gap
+        self.width, self.gap = max(32 + self.places + widest * CHARACTER, 100), gap
         self.columns = {lane: column for column, lane in enumerate(it for it, items in enumerate(lanes) if items)}
         self.boxes = {item.at: self.box(item, index) for items in lanes for index, item in enumerate(items)}
         self.height = (max((item.row for item in drawn), default=0) + 1) * pitch + 4
