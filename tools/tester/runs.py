@@ -3,7 +3,7 @@ from dataclasses import dataclass, field
 from functools import cached_property
 from sys import intern
 
-from model.machine import LONGEST_LINE, Machine, asked_by, lines_of
+from model.machine import LONGEST_LINE, lines_of
 from tester.monitor import Stop
 
 QUESTIONS = ("ask", "why", "cycle")
