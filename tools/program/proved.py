@@ -1,61 +1,23 @@
-#!/usr/bin/env python3
-"""Builds the monitor where it isn't there, or is older than a crate that it stands on. Called by ./monitor.
+"""Proves the program: the crates of the longest chain in place, in turn, and those beside it in trees of their own meanwhile.
 
-    tools/build-program TOP
-
-rt builds the libraries below a crate one after the other. So the crates of the longest chain are proved here, in turn,
-and those beside it in trees of their own meanwhile, each with its libraries' work copied; what is proved there is put
-where rt keeps it. rt itself judges by its stamps what still holds, so nothing is believed of a copy."""
-
+rt builds the libraries below a crate one after the other. So each crate beside the chain gets a copy of what its libraries
+made, and what is proved there is put where rt keeps it. rt itself judges by its stamps what still holds, so nothing is
+believed of a copy."""
+import fcntl
 import os
+import shutil
+import subprocess
 import sys
+import tempfile
+import time
 
-PROGRAM = "scm_monitor"
-PARTS = ("src", "specs", "proofs")
-
-
-def read_crates(top):
-    """Each crate with the crates of this repository that it stands on."""
-    listed = {}
-    with open(f"{top}/crates.txt", encoding="utf-8") as lines:
-        for line in lines:
-            head, colon, names = line.partition("#")[0].partition(":")
-            if colon:
-                listed[head.split()[0]] = names.split()
-    return {crate: [name for name in names if name in listed] for crate, names in listed.items()}
-
-
-def below(crates, crate):
-    """The crate's libraries, lowest first, without the crate."""
-    found = []
-    for name in crates[crate]:
-        found += [it for it in [*below(crates, name), name] if it not in found]
-    return found
-
-
-def parts_of(top, crate):
-    """The crate's folders of sources and all that lies in them."""
-    for part in PARTS:
-        for folder, _, files in os.walk(f"{top}/crates/{crate}/{part}"):
-            yield folder
-            yield from (f"{folder}/{file}" for file in files)
-
-
-def is_current(top, names):
-    program = f"{top}/crates/{PROGRAM}/out/{PROGRAM}"
-    if not os.access(program, os.X_OK):
-        return False
-    built = os.stat(program).st_mtime
-    sources = (path for name in names for path in parts_of(top, name))
-    return all(os.stat(path).st_mtime <= built for path in (f"{top}/crates.txt", *sources))
+from sources import PROGRAM, PROVED_FROM, below, crates_of_program, files_of, read_crates
 
 
 class Building:
     """Proves the crates, the longest chain here and the others beside it."""
 
     def __init__(self, top, crates, names, scratch):
-        import time
-
         self.top, self.crates, self.names, self.scratch = top, crates, names, scratch
         self.now = time.monotonic
         self.began = self.now()
@@ -68,10 +30,9 @@ class Building:
 
     def lines(self, crate):
         count = 0
-        for path in parts_of(self.top, crate):
-            if os.path.isfile(path):
-                with open(path, "rb") as text:
-                    count += sum(1 for _ in text)
+        for path in files_of(self.top, crate, PROVED_FROM):
+            with open(path, "rb") as text:
+                count += sum(1 for _ in text)
         return count
 
     def longest_chain(self):
@@ -96,8 +57,6 @@ class Building:
 
     def tree_beside(self, crate):
         """A tree with the crate and what it stands on, and what was proved of these."""
-        import shutil
-
         tree, needed = f"{self.scratch}/{crate}", [*below(self.crates, crate), crate]
         os.makedirs(f"{tree}/crates")
         os.mkdir(f"{tree}/.git")  # where rt's search for the repository's root ends
@@ -105,15 +64,13 @@ class Building:
             kept.writelines(line for line in lines if line.partition(":")[0].split(" ")[0] in needed)
         for name in needed:
             skipped = None if name == crate else shutil.ignore_patterns("incremental")
-            for part in (*PARTS, "out"):
+            for part in (*PROVED_FROM, "out"):
                 source = f"{self.top}/crates/{name}/{part}"
                 if os.path.isdir(source):
                     shutil.copytree(source, f"{tree}/crates/{name}/{part}", ignore=skipped)
         return tree
 
     def start(self, crate):
-        import subprocess
-
         is_beside = crate in self.beside
         tree = self.tree_beside(crate) if is_beside else self.top
         words = ["run"] if crate == PROGRAM else ["lib", "--jobs", "1"] if is_beside else ["lib"]
@@ -125,9 +82,6 @@ class Building:
 
     def take_back(self, crate):
         """Puts what was proved beside where rt keeps it, while no other rt works there."""
-        import fcntl
-        import shutil
-
         here, made = f"{self.top}/crates/{crate}", f"{self.scratch}/{crate}/crates/{crate}/out"
         lock = os.open(here, os.O_RDONLY)
         fcntl.flock(lock, fcntl.LOCK_EX)
@@ -166,8 +120,6 @@ class Building:
             self.shown = text
 
     def run(self):
-        import time
-
         while PROGRAM not in self.done:
             for crate in [it for it in self.running if self.running[it][0].poll() is not None]:
                 self.end(crate)
@@ -177,7 +129,7 @@ class Building:
             self.show(f"monitor: {self.clock(self.began)}: {len(self.done)} of {len(self.names)} crates are proved; now {at_work}")
             time.sleep(0.2)
         self.show("")
-        self.say(f"built in {self.clock(self.began)}")
+        self.say(f"proved in {self.clock(self.began)}")
 
     def stop(self):
         """Ends what this building started and is still at work."""
@@ -187,39 +139,17 @@ class Building:
             process.wait()
 
 
-def main(top):
-    crates = read_crates(top)
-    names = [*below(crates, PROGRAM), PROGRAM]
-    if is_current(top, names):
-        return
-    import fcntl
-    import shutil
-    import tempfile
-
-    if shutil.which("rt") is None:
-        print("monitor: there is no command rt: the Rattle toolchain builds the program", file=sys.stderr)
-        sys.exit(70)
-    if not any(os.path.isdir(f"{top}/crates/{name}/out/rlib") for name in names):
-        print(
-            f"monitor: first the program is built, once: the {len(names)} crates that it stands on are proved, "
-            "in about ten minutes on four free processors",
-            file=sys.stderr,
-        )
-    else:
-        print("monitor: the program is older than its sources: what changed is proved again", file=sys.stderr)
-    with open(f"{top}/crates.txt", encoding="utf-8") as one_at_a_time, tempfile.TemporaryDirectory() as scratch:
-        fcntl.flock(one_at_a_time, fcntl.LOCK_EX)
-        if is_current(top, names):
-            return
+def prove_program(top):
+    """The proved program's path. Ends the run with status 70 where it is not proved."""
+    crates, names = read_crates(top), crates_of_program(top)
+    print(
+        f"monitor: the {len(names)} crates that the program stands on are proved; what was proved here before and didn't change is taken over",
+        file=sys.stderr,
+    )
+    with tempfile.TemporaryDirectory() as scratch:
         building = Building(top, crates, names, scratch)
         try:
             building.run()
         finally:
             building.stop()
-    os.utime(f"{top}/crates/{PROGRAM}/out/{PROGRAM}")
-
-
-try:
-    main(sys.argv[1])
-except KeyboardInterrupt:
-    sys.exit("monitor: interrupted; what was proved is kept")
+    return f"{top}/crates/{PROGRAM}/out/{PROGRAM}"
