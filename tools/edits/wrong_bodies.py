@@ -3,6 +3,7 @@ import os
 import re
 from dataclasses import dataclass
 
+WHY = "# why: "  # begins an edit's first line, which says what a user would see; rt reads no line that begins so
 FUNCTION = re.compile(r"(?m)^([ \t]*)(?:pub(?:\([^)]*\))? )?(?:const |unsafe )*fn (\w+)")
 
 
@@ -48,17 +49,29 @@ def functions_of(file, text):
     for found in FUNCTION.finditer(text):
         first = text.count("\n", 0, found.start(2)) + 1
         last = next((at for at in range(first, len(lines) + 1) if lines[at - 1] == f"{found[1]}}}"), None)
-        opens = next((at for at in range(first, last or 0) if lines[at - 1].endswith("{")), None)
+        opens = next((at for at in range(first, last or 0) if lines[at - 1].endswith(("{", ";"))), None)
         while lines[first - 2].startswith(f"{found[1]}#["):
             first -= 1
-        if opens:
+        if opens and lines[opens - 1].endswith("{"):  # what ends with ";" is a trait's function, without a body
             yield Function(file, found[2], first, last, "\n".join(lines[opens:last]))
+
+
+def lines_of(path):
+    with open(path, encoding="utf-8") as it:
+        return it.read().rstrip("\n").split("\n")
+
+
+def why_of(path):
+    """What a user would see if the edit's body ran, or nothing where the edit doesn't say it."""
+    first = lines_of(path)[0]
+    return first.removeprefix(WHY).strip() if first.startswith(WHY) else ""
 
 
 def read_edit(path, folder):
     """The edit, or None where it isn't of the form that is read here: rt says what is wrong with it."""
-    with open(path, encoding="utf-8") as it:
-        lines = it.read().rstrip("\n").split("\n")
+    lines = lines_of(path)
+    if lines[0].startswith(WHY):
+        del lines[0]
     if len(lines) % 2 == 0 or not lines[0].startswith("file: src/"):
         return None
     file = lines[0].removeprefix("file: ").strip()
