@@ -1,4 +1,4 @@
-use Rattle.scm_rows.proofs.each.run_and_find.Given as goal
+use Rattle.scm_rows.proofs.each.run_of.Given as goal
 
 abbrev pub ghosts-run_each-B-BookNaming : goal.ghosts-run_each-B-BookNaming
 ghosts-run_each-B-BookNaming g a = record { table = a.token.table.shared.table_id; made = a.token.made.name; seats = a.token.made.parts }
