@@ -85,9 +85,18 @@ def eight_processes_of_a_thousand_operations():
     yield "a ask t", "a consistent 8000"
 
 
+def two_processes_by_turns():
+    """Two processes store and load by turns, which has more situations than any budget; reported one after the other."""
+    yield from opened(2, 1, ["x"])
+    for process in range(2):
+        for value in range(1, 3_001):
+            yield f"a do t {process} {'lw' if (value + process) % 2 == 0 else 'sw'} x {value}", "a ok"
+    yield "a ask t", "a consistent 6000" + 1_500 * " 0 1 1 0"
+
+
 ROWS = [
     a_long_process, thousands_of_situations, seventy_thousand_situations, situations_that_need_more_room,
-    eight_processes_of_a_thousand_operations,
+    eight_processes_of_a_thousand_operations, two_processes_by_turns,
 ]
 
 
@@ -95,6 +104,22 @@ def rows():
     for row in ROWS:
         script, replies = zip(*row())
         yield Stored(row.__name__.replace("_", "-"), text_of(script), [], text_of(replies))
+
+
+def full_sequence():
+    """A process with as many operations as it can have refuses one more, and another process takes its own."""
+    script = ["a open t 2 1 x:w=0", "a claim t 0", "a claim t 1", "a do t 0 lw x 9", *999_999 * ["a do t 0 sw x 1"]]
+    replies = len(script) * ["a ok"]
+    script += ["a do t 0 sw x 1", "a do t 0 sw x 4294967296", "a ask t", "a do t 1 sw x 1"]
+    replies += ["a refused 13 sequence-full", "a refused 12 value-out-of-range", "a inconsistent", "a ok"]
+    return text_of(script), text_of(replies)
+
+
+def single_runs():
+    """A million lines would take the model minutes."""
+    script, replies = full_sequence()
+    for words in (["--workers", "0"], ["--workers", "2"], ["--each"]):
+        yield Stored(f"full-sequence {' '.join(words)}", script, words, replies)
 
 
 def text_of(lines):

@@ -7,7 +7,6 @@ import subprocess
 import sys
 from concurrent.futures import ProcessPoolExecutor
 from dataclasses import dataclass
-from functools import partial
 from itertools import zip_longest
 from operator import eq
 
@@ -68,6 +67,8 @@ def run(program, words, given):
 
 def first_difference(what, wanted, given, is_same=eq):
     """The first line that isn't as it is wanted, in a list, which is empty where all are."""
+    if wanted == given:
+        return []
     for number, (one, other) in enumerate(zip_longest(wanted.split(b"\n"), given.split(b"\n")), 1):
         if one is None or other is None or not is_same(one, other):
             return [f"{what}, line {number}: {cut_short(other)}, wanted {cut_short(one)}"]
@@ -84,10 +85,10 @@ def wrong_end(stored, error, status):
 
 
 def run_exactly(program, stored):
-    """What is wrong with a run with just these words."""
+    """What is wrong with a run with just these words, which is one run, and nothing of it is judged."""
     output, error, status = run(program, stored.words, stored.given)
     found = first_difference("output", stored.output, output) + wrong_end(stored, error, status)
-    return [f"{stored.name}: {it}" for it in found]
+    return [f"{stored.name}: {it}" for it in found], 1, 0
 
 
 def is_exact(wanted, given):
@@ -135,7 +136,7 @@ def judge(stored, output, words):
     """What is wrong by the model."""
     try:
         compare(stored.given, output, words, MOST_LISTED)
-    except Wrong as fault:
+    except (Wrong, ValueError) as fault:
         return [f"by the model: {fault}"]
     return []
 
@@ -143,6 +144,7 @@ def judge(stored, output, words):
 def run_in_all_ways(program, stored):
     """What is wrong with the runs over a script, how many there were, and how many schedules and refutations were judged."""
     asked = [one for one in map(asked_by, lines_of(stored.given)) if one is not None]
+    is_alone = len({session for session, _ in asked}) == 1  # then groups change nothing
     wrong, judged, runs = [], {}, 0
     for words, wanted, is_same in ways(stored, asked):
         output, error, status = run(program, words if "--journal" in words else [*words, "--journal"], stored.given)
@@ -150,7 +152,7 @@ def run_in_all_ways(program, stored):
         if wanted is not None:
             shown = output if JOURNAL.search(wanted) else replies_of(output)
             found += first_difference("output", wanted, shown, is_same) + wrong_end(stored, error, status)
-        kind = output, "--each" in words
+        kind = output, is_alone or "--each" in words
         if kind not in judged:
             found += judge(stored, output, words)
             judged[kind] = len(EVIDENCE.findall(replies_of(output)))
@@ -159,28 +161,19 @@ def run_in_all_ways(program, stored):
     return wrong, runs, sum(judged.values())
 
 
-def check_scripts(folder, program, scripts):
-    """Whether there are scripts and nothing is wrong with them, which is told."""
+def check(folder, program, scripts, single_runs):
+    """Whether there are verdicts and nothing is wrong with the scripts, in all ways, and with the single runs; tells so."""
     with ProcessPoolExecutor(len(os.sched_getaffinity(0))) as pool:
-        parts = list(pool.map(partial(run_in_all_ways, program), scripts))
+        running = [pool.submit(run_exactly, program, it) for it in single_runs]
+        running += [pool.submit(run_in_all_ways, program, it) for it in scripts]
+        parts = [it.result() for it in running]
     wrong = [it for found, _, _ in parts for it in found]
     runs, judged = (sum(part[at] for part in parts) for at in (1, 2))
-    print(*wrong, sep="\n", end="\n" if wrong else "")
-    print(f"{folder}: {len(scripts)} scripts, {runs} runs, {judged} schedules and refutations judged{told(wrong)}")
+    for it in wrong:
+        print(it)
+    told = f", {len(wrong)} wrong" if wrong else ""
+    print(f"{folder}: {len(parts)} scripts, {runs} runs, {judged} schedules and refutations judged{told}")
     return judged > 0 and not wrong
-
-
-def check_runs(folder, program, stored):
-    """The same of runs with just their words."""
-    with ProcessPoolExecutor(len(os.sched_getaffinity(0))) as pool:
-        wrong = [it for found in pool.map(partial(run_exactly, program), stored) for it in found]
-    print(*wrong, sep="\n", end="\n" if wrong else "")
-    print(f"{folder}: {len(stored)} runs by their output, status and standard error{told(wrong)}")
-    return len(stored) > 0 and not wrong
-
-
-def told(wrong):
-    return f", {len(wrong)} wrong" if wrong else ""
 
 
 def program_named(doc):
@@ -191,4 +184,6 @@ def program_named(doc):
     if program is None:
         subprocess.run([f"{TOP}/monitor", "--version"], stdout=subprocess.DEVNULL, check=True)
         return PROGRAM
+    if not os.access(program, os.X_OK) or os.path.isdir(program):
+        parser.error(f"{program} is no program")
     return os.path.abspath(program)

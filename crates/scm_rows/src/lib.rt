@@ -19,8 +19,6 @@ mod proposals;
 #[cfg(test)]
 mod read_lines;
 #[cfg(test)]
-mod real_size;
-#[cfg(test)]
 mod replays;
 #[cfg(test)]
 mod reply_texts;
@@ -34,3 +32,5 @@ mod shared_searchers;
 mod storm;
 #[cfg(test)]
 mod storm_lines;
+#[cfg(test)]
+mod tasks;

@@ -1,14 +1,13 @@
-//! A process with all the operations that it can have, and more tasks than short scripts lead to.
+//! More tasks than short scripts lead to.
 use scm_book::{Book, run_events};
 use scm_expand::{Outcome, Task, expand};
-use scm_sequences::MOST_OPERATIONS;
 use scm_sessions::{Findings, Port, run_script};
 use std::alloc::{AllocError, Global};
 use std::process::Abort;
 use std::test::Fail;
 
-/// The book after a script, and the replies.
-fn run_of(rt: &impl Abort, alloc: Global, script: &[u8]) -> (Book, Vec<u8>) {
+/// The book after a script.
+fn book_after(rt: &impl Abort, alloc: Global, script: &[u8]) -> Book {
     let mut reader = Port::new(script);
     let mut writer = Port::new(Vec::new(alloc));
     let ended = run_script(
@@ -19,27 +18,7 @@ fn run_of(rt: &impl Abort, alloc: Global, script: &[u8]) -> (Book, Vec<u8>) {
         &mut Findings::new(),
     );
     let (book, _) = ended.expect(rt, "the run ended without a fault");
-    (book, writer.into_inner())
-}
-
-/// A process with as many operations as it can have refuses one more, and another process takes its own.
-#[test]
-fn sequence_full(rt: HostRuntime) -> Result<(), Fail> {
-    let mut script = Vec::new(rt.alloc());
-    script.extend_from_slice(b"a open t 2 1 x:w=0\na claim t 0\na do t 0 lw x 9\n")?;
-    for _ in 1..MOST_OPERATIONS {
-        script.extend_from_slice(b"a do t 0 sw x 1\n")?;
-    }
-    script.extend_from_slice(
-        b"a do t 0 sw x 1\na do t 0 sw x 4294967296\na ask t\na claim t 1\na do t 1 sw x 1\n",
-    )?;
-    let (_, written) = run_of(&rt, rt.alloc(), &script);
-    assert!(rt;
-        written.as_slice().ends_with(
-            b"\na ok\na refused 13 sequence-full\na refused 12 value-out-of-range\na inconsistent\na ok\na ok\n"
-        )
-    );
-    Ok(())
+    book
 }
 
 /// Two processes, each of which makes this many stores in its own cell.
@@ -74,7 +53,7 @@ fn expand_all(
 #[test]
 fn more_tasks_than_are_there(rt: HostRuntime) -> Result<(), Fail> {
     let script = grid(rt.alloc(), 40)?;
-    let (mut book, _) = run_of(&rt, rt.alloc(), script.as_bytes());
+    let mut book = book_after(&rt, rt.alloc(), script.as_bytes());
     for round in 1..=40 {
         let tasks = book.take(100)?;
         assert_eq!(rt; tasks.len(), 2 * round);
