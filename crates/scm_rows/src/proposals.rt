@@ -1,7 +1,7 @@
 //! A proposed schedule that goes on from an earlier one, handed to the checker.
 use scm_proposals::propose;
 use scm_schedules::is_legal;
-use scm_sequences::{Op, Sequences};
+use scm_sequences::{MOST_CELLS, Op, Sequences};
 use std::alloc::Global;
 use std::process::Abort;
 use std::test::Fail;
@@ -20,14 +20,16 @@ fn stores_and_loads(alloc: Global) -> Result<Sequences, Fail> {
 fn has_legal_proposal_from(
     rt: &impl Abort,
     alloc: Global,
+    initials: &[Option<u64>],
     sequences: &Sequences,
     earlier: &[u8],
 ) -> bool {
-    let (initials, lengths) = ([Some(0)], sequences.lengths());
+    let lengths = sequences.lengths();
+    assert!(rt; initials.len() <= MOST_CELLS);
     assert!(rt; lengths.within(&sequences.lengths()));
-    assert!(rt; sequences.names_cells_below(1));
-    match propose(alloc, &initials, sequences, &lengths, earlier, 10_000, 0) {
-        Some(places) => is_legal(&initials, sequences, &lengths, &places),
+    assert!(rt; sequences.names_cells_below(initials.len()));
+    match propose(alloc, initials, sequences, &lengths, earlier, 10_000, 0) {
+        Some(places) => is_legal(initials, sequences, &lengths, &places),
         None => false,
     }
 }
@@ -39,7 +41,7 @@ fn earlier_schedules(rt: HostRuntime) -> Result<(), Fail> {
     let sequences = stores_and_loads(rt.alloc())?;
     let earlier: [&[u8]; 5] = [&[0, 1], &[0, 0], &[1, 0], &[7, 255], &[0, 1, 0, 1, 0]];
     for places in earlier {
-        assert!(rt; has_legal_proposal_from(&rt, rt.alloc(), &sequences, places));
+        assert!(rt; has_legal_proposal_from(&rt, rt.alloc(), &[Some(0)], &sequences, places));
     }
     Ok(())
 }

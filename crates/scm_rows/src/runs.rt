@@ -6,6 +6,7 @@ use scm_book::Book;
 use scm_sequences::LONGEST_LINE;
 use scm_sessions::{Findings, Port, RunFault, run_script};
 use std::alloc::Global;
+use std::process::Abort;
 use std::test::Fail;
 
 /// How many lines `many_reads` gives, more than two 16-bit counts can hold.
@@ -50,15 +51,27 @@ fn run_of(alloc: Global, script: &[u8], step: usize, read_limit: usize, write_li
     }
 }
 
+/// Stops the test where a run didn't end so, or another text was written, or a reply came late.
+fn expect_ran(rt: &impl Abort, ran: &Ran, fault: Option<RunFault>, written: &[u8]) {
+    assert!(rt;
+        ran.fault == fault && !ran.is_late,
+        "written are {} bytes",
+        ran.written.len()
+    );
+    assert!(rt;
+        ran.written.as_slice() == written,
+        "wanted are {} bytes",
+        written.len()
+    );
+}
+
 #[test]
 fn replies_are_written_before_more_is_read(rt: HostRuntime) {
     let table = [(MESSAGE, REPLIES), (ALL_KINDS, ALL_REPLIES)];
     for (script, replies) in table {
         for step in [1, 3, 4096] {
             let ran = run_of(rt.alloc(), script.as_bytes(), step, usize::MAX, usize::MAX);
-            assert_eq!(rt; ran.fault, None);
-            assert_eq!(rt; ran.written.as_slice(), replies.as_bytes(), "at {step}");
-            assert!(rt; !ran.is_late, "a reply came late at {step}");
+            expect_ran(&rt, &ran, None, replies.as_bytes());
         }
     }
 }
@@ -66,14 +79,13 @@ fn replies_are_written_before_more_is_read(rt: HostRuntime) {
 // Each line is a read of its own, and its reply is flushed before the next one.
 #[test]
 fn many_reads(rt: HostRuntime) -> Result<(), Fail> {
-    let mut script = Vec::new(rt.alloc());
+    let (mut script, mut replies) = (Vec::new(rt.alloc()), Vec::new(rt.alloc()));
     for _ in 0..MANY {
         script.extend_from_slice(b"A\n")?;
+        replies.extend_from_slice(b"? refused 1 bad-line\n")?;
     }
     let ran = run_of(rt.alloc(), &script, 2, usize::MAX, usize::MAX);
-    assert_eq!(rt; ran.fault, None);
-    assert!(rt; !ran.is_late);
-    assert_eq!(rt; ran.written.len(), MANY * b"? refused 1 bad-line\n".len());
+    expect_ran(&rt, &ran, None, &replies);
     Ok(())
 }
 
@@ -84,9 +96,7 @@ fn a_read_fault_ends_the_run(rt: HostRuntime) {
         for limit in 0..=script.len() {
             let ran = run_of(rt.alloc(), script, step, limit, usize::MAX);
             let wanted = replies_to(&script[..limit], REPLIES.as_bytes());
-            assert_eq!(rt; ran.fault, Some(RunFault::ReadFailed));
-            assert!(rt; !ran.is_late, "a reply came late at {step} and {limit}");
-            assert_eq!(rt; ran.written.as_slice(), wanted, "at {step} and {limit}");
+            expect_ran(&rt, &ran, Some(RunFault::ReadFailed), wanted);
         }
     }
 }
@@ -97,13 +107,7 @@ fn a_write_fault_ends_the_run(rt: HostRuntime) {
     for step in [1, 3, 4096] {
         for limit in 0..=replies.len() {
             let ran = run_of(rt.alloc(), MESSAGE.as_bytes(), step, usize::MAX, limit);
-            assert_eq!(rt; ran.fault, Some(RunFault::WriteFailed));
-            assert!(rt; !ran.is_late, "read on at {step} and {limit}");
-            assert_eq!(rt;
-                ran.written.as_slice(),
-                &replies[..limit],
-                "at {step} and {limit}"
-            );
+            expect_ran(&rt, &ran, Some(RunFault::WriteFailed), &replies[..limit]);
         }
     }
 }
@@ -119,8 +123,7 @@ fn some_lines_are_bad_and_some_ask_for_nothing(rt: HostRuntime) -> Result<(), Fa
     let ran = run_of(rt.alloc(), &script, 100, usize::MAX, usize::MAX);
     let wanted =
         b"? refused 1 bad-line\na refused 1 bad-line\n? refused 1 bad-line\nb refused 1 bad-line\n";
-    assert_eq!(rt; ran.fault, None);
-    assert_eq!(rt; ran.written.as_slice(), wanted.as_slice());
+    expect_ran(&rt, &ran, None, wanted);
     // the last line has no line feed
     assert_eq!(rt; ran.flushed, 4);
     Ok(())
