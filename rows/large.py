@@ -103,7 +103,7 @@ ROWS = [
 def rows():
     for row in ROWS:
         script, replies = zip(*row())
-        yield Stored(row.__name__.replace("_", "-"), text_of(script), [], text_of(replies))
+        yield Stored(row.__name__.replace("_", "-"), bytes_of(script), [], bytes_of(replies))
 
 
 def full_sequence():
@@ -112,7 +112,7 @@ def full_sequence():
     replies = len(script) * ["a ok"]
     script += ["a do t 0 sw x 1", "a do t 0 sw x 4294967296", "a ask t", "a do t 1 sw x 1"]
     replies += ["a refused 13 sequence-full", "a refused 12 value-out-of-range", "a inconsistent", "a ok"]
-    return text_of(script), text_of(replies)
+    return bytes_of(script), bytes_of(replies)
 
 
 def single_runs():
@@ -122,5 +122,5 @@ def single_runs():
         yield Stored(f"full-sequence {' '.join(words)}", script, words, replies)
 
 
-def text_of(lines):
+def bytes_of(lines):
     return "".join(f"{line}\n" for line in lines).encode()
