@@ -145,7 +145,7 @@ def run_in_all_ways(program, stored):
     """What is wrong with the runs over a script, how many there were, and how many schedules and refutations were judged."""
     asked = [one for one in map(asked_by, lines_of(stored.given)) if one is not None]
     is_alone = len({session for session, _ in asked}) == 1  # then groups change nothing
-    wrong, judged, runs = [], {}, 0
+    wrong, judged, runs, evidence = [], set(), 0, 0
     for words, wanted, is_same in ways(stored, asked):
         output, error, status = run(program, words if "--journal" in words else [*words, "--journal"], stored.given)
         found = []
@@ -155,10 +155,11 @@ def run_in_all_ways(program, stored):
         kind = output, is_alone or "--each" in words
         if kind not in judged:
             found += judge(stored, output, words)
-            judged[kind] = len(EVIDENCE.findall(replies_of(output)))
+            judged.add(kind)
         wrong += [f"{stored.name} {' '.join(words)}: {it}" for it in found]
         runs += 1
-    return wrong, runs, sum(judged.values())
+        evidence += len(EVIDENCE.findall(replies_of(output)))
+    return wrong, runs, evidence
 
 
 def check(folder, program, scripts, single_runs):
