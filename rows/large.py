@@ -115,11 +115,27 @@ def full_sequence():
     return bytes_of(script), bytes_of(replies)
 
 
+def full_journal():
+    """A journal takes 1,048,576 entries and no more; sessions enter still, and the 257th is turned away."""
+    calls = 1_048_576
+    script = [*calls * ["s0 list"], *(f"s{number} list" for number in range(1, 257)), "s0 list"]
+    full = [f"s{number} refused 17 journal-full" for number in range(1, 256)]
+    replies = [*calls * ["s0 traces 0"], *full, "s256 refused 19 too-many-sessions", "s0 refused 17 journal-full"]
+    journal = [f"journal {calls}", *(f"{place} s0 {place} traces 0" for place in range(calls))]
+    return bytes_of(script), bytes_of(replies + journal)
+
+
+ALONE, BESIDE = ["--workers", "0"], ["--workers", "2"]
+
+
 def single_runs():
     """A million lines would take the model minutes."""
-    script, replies = full_sequence()
-    for words in (["--workers", "0"], ["--workers", "2"], ["--each"]):
-        yield Stored(f"full-sequence {' '.join(words)}", script, words, replies)
+    script, output = full_sequence()
+    for words in (ALONE, BESIDE, ["--each"]):
+        yield Stored(f"full-sequence {' '.join(words)}", script, words, output)
+    script, output = full_journal()
+    for words in (ALONE, BESIDE):
+        yield Stored(f"full-journal {' '.join(words)}", script, [*words, "--journal"], output)
 
 
 def bytes_of(lines):

@@ -1,10 +1,9 @@
-//! The journal: as it is written, to a writer that fails too, and when it is full.
+//! The journal as it is written, to a writer that fails too.
 ghost use Rattle.std.specs.Prelude.{◌≡◌, false};
 ghost use Rattle.scm_sessions.specs.Ports.{has_failed};
 
 use crate::fakes::{StepWriter, Wire};
-use scm_book::{Book, Reply};
-use scm_sequences::{MOST_ENTRIES, Refusal};
+use scm_book::Book;
 use scm_sessions::{Findings, Port, RunFault, run_script, write_journal};
 use std::alloc::Global;
 use std::test::Fail;
@@ -59,23 +58,4 @@ fn a_run_has_its_journal(rt: HostRuntime) -> Result<(), Fail> {
         );
     }
     Ok(())
-}
-
-/// A journal takes its most entries; further calls are refused, and the entries stay.
-#[test]
-fn full_journal(rt: HostRuntime) {
-    let mut book = Book::new(rt.alloc());
-    for _ in 0..MOST_ENTRIES {
-        assert!(rt; matches!(book.list(0), Reply::Traces(_)));
-    }
-    assert_eq!(rt; book.entries().len(), MOST_ENTRIES);
-    for session in [0, 1] {
-        assert!(rt; matches!(book.list(session), Reply::Refused(Refusal::JournalFull)));
-        assert_eq!(rt; book.entries().len(), MOST_ENTRIES);
-    }
-    assert_eq!(rt; book.count_of(0), MOST_ENTRIES as u64);
-    assert_eq!(rt; book.count_of(1), 0);
-    let last = book.entries().last().expect(&rt, "an entry");
-    assert_eq!(rt; last.session, 0);
-    assert_eq!(rt; last.number, MOST_ENTRIES as u64 - 1);
 }
