@@ -123,7 +123,7 @@ fn some_lines_are_bad_and_some_ask_for_nothing(rt: HostRuntime) -> Result<(), Fa
     let ran = run_of(rt.alloc(), &script, 100, usize::MAX, usize::MAX);
     let wanted =
         b"? refused 1 bad-line\na refused 1 bad-line\n? refused 1 bad-line\nb refused 1 bad-line\n";
-    assert!(rt; ran.fault == None && ran.written.as_slice() == wanted.as_slice());
+    assert!(rt; ran.fault.is_none() && ran.written.as_slice() == wanted.as_slice());
     // the last line has no line feed
     assert_eq!(rt; ran.flushed, 4);
     Ok(())
