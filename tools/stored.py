@@ -183,7 +183,10 @@ def program_named(doc):
     parser.add_argument("program", nargs="?", metavar="PROGRAM", help="without it: the one that ./monitor builds")
     program = parser.parse_args().program
     if program is None:
-        return subprocess.run([f"{TOP}/tools/program/build"], stdout=subprocess.PIPE, check=True, text=True).stdout.rstrip("\n")
+        built = subprocess.run([f"{TOP}/tools/program/build"], stdout=subprocess.PIPE, check=False, text=True)
+        if built.returncode:
+            sys.exit(1)
+        return built.stdout.rstrip("\n")
     if not os.access(program, os.X_OK) or os.path.isdir(program):
         parser.error(f"{program} is no program")
     return os.path.abspath(program)
