@@ -7,15 +7,17 @@ COMPILED_FROM = ("src",)  # what a program is compiled from; a proof reads the c
 PROVED_FROM = ("src", "specs", "proofs")
 
 
+def lines_of_crates(top):
+    """Each crate's line in crates.txt, by its name."""
+    with open(f"{top}/crates.txt", encoding="utf-8") as lines:
+        listed = [line.partition("#")[0].strip() for line in lines]
+    return {line.partition(":")[0].split()[0]: line for line in listed if ":" in line}
+
+
 def read_crates(top):
     """Each crate with the crates of this repository that it stands on."""
-    listed = {}
-    with open(f"{top}/crates.txt", encoding="utf-8") as lines:
-        for line in lines:
-            head, colon, names = line.partition("#")[0].partition(":")
-            if colon:
-                listed[head.split()[0]] = names.split()
-    return {crate: [name for name in names if name in listed] for crate, names in listed.items()}
+    lines = lines_of_crates(top)
+    return {crate: [name for name in line.partition(":")[2].split() if name in lines] for crate, line in lines.items()}
 
 
 def below(crates, crate):
@@ -40,12 +42,13 @@ def files_of(top, crate, parts):
 
 
 def sum_of(top, parts):
-    """A sum of all files in these parts of the program's crates."""
-    found = hashlib.sha256()
-    for path in [f"{top}/crates.txt", *(it for crate in crates_of_program(top) for it in files_of(top, crate, parts))]:
+    """A sum of all files in these parts of the program's crates, and of their lines in crates.txt."""
+    crates, lines, found = crates_of_program(top), lines_of_crates(top), hashlib.sha256()
+    found.update("\n".join(lines[crate] for crate in crates).encode())
+    for path in (it for crate in crates for it in files_of(top, crate, parts)):
         with open(path, "rb") as file:
             content = file.read()
-        found.update(f"{os.path.relpath(path, top)} {len(content)}\n".encode())
+        found.update(f"\n{os.path.relpath(path, top)} {len(content)}\n".encode())
         found.update(content)
     return found.hexdigest()
 
