@@ -80,15 +80,18 @@ pub(crate) fn is_refuted(
 fn fixed_by(
     rt: &impl Abort,
     alloc: Global,
+    initials: &[Option<u64>],
     sequences: &Sequences,
     lengths: &Lengths,
     schedule: &[u8],
 ) -> Option<Vec<(u8, u64)>> {
-    assert!(rt; lengths.within(&sequences.lengths()));
-    let is_below = sequences.names_cells_below(INITIALS.len());
+    assert!(rt; initials.len() <= MOST_CELLS);
+    let is_within = lengths.within(&sequences.lengths());
+    assert!(rt; is_within);
+    let is_below = sequences.names_cells_below(initials.len());
     assert!(rt; is_below);
-    if is_legal(&INITIALS, sequences, lengths, schedule) {
-        Some(fixed(alloc, &INITIALS, sequences, schedule).expect(rt, "memory"))
+    if is_legal(initials, sequences, lengths, schedule) {
+        Some(fixed(alloc, initials, sequences, schedule).expect(rt, "memory"))
     } else {
         None
     }
@@ -118,7 +121,7 @@ fn judge_schedule(rt: &impl Abort, alloc: Global, row: &str) {
     let sequences = sequences_in(rt, alloc, 2, trace);
     let lengths = lengths_in(rt, alloc, 2, trace);
     let places = digits(rt, alloc, places);
-    let found = fixed_by(rt, alloc, &sequences, &lengths, &places);
+    let found = fixed_by(rt, alloc, &INITIALS, &sequences, &lengths, &places);
     let is_right = match verdict.strip_prefix("legal") {
         Some(values) => found == Some(fixed_values(rt, alloc, values)),
         None => found.is_none(),

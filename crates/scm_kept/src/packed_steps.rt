@@ -173,6 +173,6 @@ fn a_full_count_has_no_room_for_one_more(rt: HostRuntime) {
     }
     assert!(rt; after(&rt, &full, word, 3, write).is_err());
     assert!(rt; full.procs() == 8);
-    let counts = [2, 3, 4].map(|p| full.count(word, p));
-    assert!(rt; counts == [0, 127, 0]);
+    let others = [full.count(word, 2), full.count(word, 4)];
+    assert!(rt; full.count(word, 3) == 127 && others == [0, 0]);
 }

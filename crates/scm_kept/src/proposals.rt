@@ -35,7 +35,7 @@ fn consistent_rows_are_decided(rt: HostRuntime) {
         assert!(rt; is_consistent || !is_decided, "{row}");
         missed = missed.saturating_add(u32::from(is_consistent && !is_decided));
     }
-    assert!(rt; missed == 2, "{missed}");
+    assert!(rt; missed == 3, "{missed}");
 }
 
 /// What a memory did, whose two cells three processes accessed as it came, so many times, with three values.
