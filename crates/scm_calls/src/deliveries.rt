@@ -1,8 +1,10 @@
 //! What workers take and deliver, between the calls of a session.
 
+use crate::expand::expanded;
+use crate::lending::steps_to_ask;
 use crate::words::{ANNA, call_of, name, play, played, says};
 use scm_book::{Book, Event, Reply, run_events};
-use scm_expand::{Outcome, Task, expand};
+use scm_expand::{Outcome, Task};
 use scm_frontier::Steps;
 use scm_results::{Fate, Results};
 use scm_sequences::Op;
@@ -19,13 +21,6 @@ const STORE_BUFFERING: &str = "open t 2 100 x y; claim t 0; claim t 1;\
 /// The next task, if there is one.
 fn take_one(rt: &impl Abort, book: &mut Book) -> Option<Task> {
     book.take(1).expect(rt, "memory").pop()
-}
-
-fn expanded(rt: &impl Abort, task: Task) -> Outcome {
-    let Ok(outcome) = expand(task) else {
-        panic!(rt; "no memory");
-    };
-    outcome
 }
 
 /// What comes of the next task.
@@ -57,16 +52,6 @@ fn is_same(task: &Task, other: &Task) -> bool {
         && task.process == other.process
         && task.op == other.op
         && task.situation == other.situation
-}
-
-/// By how many steps t gets this answer.
-fn steps_to_ask(rt: &impl Abort, book: &mut Book, wanted: &str) -> u64 {
-    let t = name(rt, b"t");
-    let mut steps = Steps::new();
-    assert!(rt; book.has_room(&t, &steps));
-    let reply = book.ask(ANNA, t, None, &mut steps);
-    assert!(rt; says(&reply, wanted));
-    steps.made()
 }
 
 /// By how many steps it is found out why t is inconsistent.

@@ -1,10 +1,11 @@
 //! That workers work a shared book off, and that nobody waits for one who is at work.
 ghost use Rattle.std.specs.Prelude.{◌≡◌};
 
+use crate::expand::expanded;
 use crate::shared::entered;
 use crate::words::{call_of, says};
 use scm_book::Book;
-use scm_expand::{FreeGate, Gate, Outcome, TaskSource, expand, run_workers};
+use scm_expand::{FreeGate, Gate, Outcome, TaskSource, run_workers};
 use scm_results::Tally;
 use scm_shared::{Audit, BookNaming, BookToken, Pass, SharedBook};
 use std::alloc::Global;
@@ -97,32 +98,6 @@ fn work_and_drop<B: BookNaming + Send + Sync, R: Threads + Wait + Abort + Sync>(
     tallies
 }
 
-/// Works store buffering off.
-fn work_off<B: BookNaming + Send + Sync, R: Threads + Wait + Abort + Sync>(
-    rt: &R,
-    alloc: Global,
-    token: BookToken,
-) -> Book
-    requires table { token.table.shared.table_id ≡ B.table }
-    requires made { (token.made.name ≡ B.made) × (token.made.parts ≡ B.seats) }
-    requires totals { (token.totals.taken.name ≡ B.taken) × (token.totals.delivered.name ≡ B.delivered) × (token.totals.taken.parts ≡ B.parts) }
-{
-    let shared = SharedBook::<B>::new(alloc, token);
-    let pass = buffered(rt, alloc, &shared);
-    let tallies = work_and_drop(rt, alloc, &shared);
-    let passes = vec![in alloc; pass].expect(rt, "memory");
-    accounted(rt, shared.audit(passes, tallies), 4)
-}
-
-#[test]
-fn worked_off(rt: HostRuntime) -> Result<(), Fail> {
-    let mut book = work_off::<Brand, _>(&rt, rt.alloc(), BookToken::new(rt.alloc())?);
-    assert!(rt; book.results().accepted == 7);
-    assert_answer(&rt, rt.alloc(), &mut book, "inconsistent");
-    assert!(rt; book.steps() == 0);
-    Ok(())
-}
-
 /// A pass, after a question has looked at all there was in 91 situations, and then the report of a load that is legal in none.
 fn searched<B: BookNaming, R: Wait + Abort>(
     rt: &R,
@@ -144,26 +119,40 @@ fn searched<B: BookNaming, R: Wait + Abort>(
     pass
 }
 
-/// Works these situations off, by several takings that bring nothing new.
-fn work_loads_off<B: BookNaming + Send + Sync, R: Threads + Wait + Abort + Sync>(
+/// Works store buffering off, or the situations that a question has looked at, by several takings that bring nothing new.
+fn work_off<B: BookNaming + Send + Sync, R: Threads + Wait + Abort + Sync>(
     rt: &R,
     alloc: Global,
     token: BookToken,
+    is_searched: bool,
 ) -> Book
     requires table { token.table.shared.table_id ≡ B.table }
     requires made { (token.made.name ≡ B.made) × (token.made.parts ≡ B.seats) }
     requires totals { (token.totals.taken.name ≡ B.taken) × (token.totals.delivered.name ≡ B.delivered) × (token.totals.taken.parts ≡ B.parts) }
 {
     let shared = SharedBook::<B>::new(alloc, token);
-    let pass = searched(rt, alloc, &shared);
+    let pass = if is_searched {
+        searched(rt, alloc, &shared)
+    } else {
+        buffered(rt, alloc, &shared)
+    };
     let tallies = work_and_drop(rt, alloc, &shared);
     let passes = vec![in alloc; pass].expect(rt, "memory");
     accounted(rt, shared.audit(passes, tallies), 4)
 }
 
 #[test]
+fn worked_off(rt: HostRuntime) -> Result<(), Fail> {
+    let mut book = work_off::<Brand, _>(&rt, rt.alloc(), BookToken::new(rt.alloc())?, false);
+    assert!(rt; book.results().accepted == 7);
+    assert_answer(&rt, rt.alloc(), &mut book, "inconsistent");
+    assert!(rt; book.steps() == 0);
+    Ok(())
+}
+
+#[test]
 fn loads_are_worked_off(rt: HostRuntime) -> Result<(), Fail> {
-    let mut book = work_loads_off::<Brand, _>(&rt, rt.alloc(), BookToken::new(rt.alloc())?);
+    let mut book = work_off::<Brand, _>(&rt, rt.alloc(), BookToken::new(rt.alloc())?, true);
     assert!(rt; book.results().known >= 91);
     let steps = book.steps();
     assert_answer(&rt, rt.alloc(), &mut book, "inconsistent");
@@ -286,10 +275,7 @@ fn two_outcomes<B: BookNaming, R: Wait + Abort>(
 ) -> Vec<Outcome> {
     let mut outcomes = Vec::new(alloc);
     for task in shared.take(rt, 2, tally).expect(rt, "memory") {
-        let Ok(outcome) = expand(task) else {
-            panic!(rt; "no memory");
-        };
-        outcomes.push(outcome).expect(rt, "memory");
+        outcomes.push(expanded(rt, task)).expect(rt, "memory");
     }
     assert!(rt; outcomes.len() == 2);
     outcomes
