@@ -115,6 +115,7 @@ def main():
         raise Stop(f"{fault.filename}: {fault.strerror}") from None
     if not logs:
         raise Stop(f"{options.logs}: no file is in it")
+    Monitor(options.program).replies(["a list"])  # it is built before several want it
     rows, counts = rows_of(options, logs)
     rows.sort(key=lambda row: (ORDER.index(row.verdict), row.operations, row.name))
     print(f"{len(rows)} logs: {', '.join(f'{counts[it]} {it}' for it in ORDER if counts[it])}")

@@ -46,6 +46,10 @@ def read_script(path):
         raise Stop(f"{path}: {fault.strerror}") from None
 
 
+def named(path):
+    return "standard input" if path == "-" else path
+
+
 def started(program, **pipes):
     try:
         return subprocess.Popen([program, "--workers", "0"], **pipes)

@@ -1,6 +1,7 @@
 """The traces of a script, by its lines and their replies."""
 from dataclasses import dataclass, field
 from functools import cached_property
+from sys import intern
 
 from model.machine import LONGEST_LINE, Machine, asked_by, lines_of
 from tester.monitor import Stop
@@ -16,7 +17,7 @@ class Line:
 
     def __init__(self, number, text, reply):
         self.number, self.text, self.reply = number, text, reply
-        self.words = text.decode("latin-1").split()
+        self.words = tuple(map(intern, text.decode("latin-1").split()))  # they are few, and lines are many
 
     @property
     def is_refused(self):
@@ -71,12 +72,12 @@ def runs_of(lines):
     for line in lines:
         words = line.words
         name = words[2] if len(words) > 2 else None
-        if words[1:2] == ["open"] and line.reply == "ok":
+        if words[1:2] == ("open",) and line.reply == "ok":
             is_open[name] = Run(name)
             runs.append(is_open[name])
         if name in is_open:
             is_open[name].lines.append(line)
-        if words[1:2] == ["close"] and line.reply == "ok":
+        if words[1:2] == ("close",) and line.reply == "ok":
             del is_open[name]
     return runs
 

@@ -80,6 +80,51 @@ class Judge:
         return verdict
 
 
+def closed(start, more):
+    """The places that are there at the start, and what each of them brings along."""
+    found, waiting = set(start), list(start)
+    while waiting:
+        fresh = set(more(waiting.pop())) - found
+        found |= fresh
+        waiting += fresh
+    return found
+
+
+def with_readers(recording, gone):
+    """These operations and all that read what one of them wrote, and so on."""
+    readers = {}
+    for at in recording.operations:
+        kind, cell, old, _ = recording.operation(at)
+        if kind != "W":
+            readers.setdefault((cell, old), []).append(at)
+
+    def read_by(at):
+        kind, cell, _, new = recording.operation(at)
+        return [] if kind == "R" else readers.get((cell, new), [])
+    return closed(gone, read_by)
+
+
+def with_writers(recording, kept):
+    """These operations and all that wrote what one of them reads, and so on."""
+    writers = {}
+    for at in recording.operations:
+        kind, cell, _, new = recording.operation(at)
+        if kind != "R":
+            writers.setdefault((cell, new), []).append(at)
+
+    def written_by(at):
+        kind, cell, old, _ = recording.operation(at)
+        return [] if kind == "W" else writers.get((cell, old), [])
+    return closed(kept, written_by)
+
+
+def changed(recording, at, operation):
+    """The same trace with another operation in this place."""
+    sequences = [list(sequence) for sequence in recording.trace.sequences]
+    sequences[at[0]][at[1]] = operation
+    return replace(recording, trace=replace(recording.trace, sequences=sequences))
+
+
 class Shrinking:
     def __init__(self, recording, judge, tell=lambda count: None):
         self.recording, self.judge, self.tell = recording, judge, tell
@@ -112,38 +157,11 @@ class Shrinking:
     def accesses(self, cell):
         return {at for at in self.recording.operations if self.recording.operation(at)[1] == cell}
 
-    def with_readers(self, gone):
-        """These operations and all that read what one of them wrote, and so on."""
-        gone, waiting = set(gone), list(gone)
-        while waiting:
-            kind, cell, _, new = self.recording.operation(waiting.pop())
-            readers = [] if kind == "R" else self.readers.get((cell, new), [])
-            waiting += (at for at in readers if at not in gone)
-            gone.update(readers)
-        return gone
-
-    def index(self):
-        """Who reads and who writes each value of each cell."""
-        self.readers, self.writers = {}, {}
-        for at in self.recording.operations:
-            kind, cell, old, new = self.recording.operation(at)
-            if kind != "W":
-                self.readers.setdefault((cell, old), []).append(at)
-            if kind != "R":
-                self.writers.setdefault((cell, new), []).append(at)
-
     def keep_what_is_named(self):
         """While a short refutation is found, what it names stays, with each write of a value that is read of these."""
         size = None
         while self.orders and size != (size := len(self.recording.operations)):
-            self.index()
-            kept, waiting = set(), [at for order in self.orders for at in (order.start, order.end)]
-            while waiting:
-                at = waiting.pop()
-                if at not in kept:
-                    kept.add(at)
-                    kind, cell, old, _ = self.recording.operation(at)
-                    waiting += [] if kind == "W" else self.writers.get((cell, old), [])
+            kept = with_writers(self.recording, {at for order in self.orders for at in (order.start, order.end)})
             if len(kept) < size:
                 self.accept(self.recording.only(kept))
 
@@ -171,8 +189,7 @@ class Shrinking:
         return self.recording.lines[at[0]][at[1]].number
 
     def leave_out(self, gone):
-        self.index()
-        gone = self.with_readers(gone)
+        gone = with_readers(self.recording, gone)
         done = self.accept(self.recording.only(at for at in self.recording.operations if at not in gone))
         if done:
             self.keep_what_is_named()
@@ -182,14 +199,8 @@ class Shrinking:
         """Read-and-writes become stores, or loads, where that is enough."""
         for at in self.recording.operations:
             kind, cell, old, new = self.recording.operation(at)
-            self.index()
-            if kind == "RW" and not self.accept(self.changed(at, ("W", cell, None, new))) and not self.readers.get((cell, new), []):
-                self.accept(self.changed(at, ("R", cell, old, old)))
-
-    def changed(self, at, operation):
-        sequences = [list(sequence) for sequence in self.recording.trace.sequences]
-        sequences[at[0]][at[1]] = operation
-        return replace(self.recording, trace=replace(self.recording.trace, sequences=sequences))
+            if kind == "RW" and not self.accept(changed(self.recording, at, ("W", cell, None, new))) and with_readers(self.recording, {at}) == {at}:
+                self.accept(changed(self.recording, at, ("R", cell, old, old)))
 
 
 def smallest(recording, judge, tries, tell=lambda count: None):
