@@ -3,6 +3,8 @@ import os
 import re
 from dataclasses import dataclass
 
+WHY = "# why: "  # begins an edit's first line, which says what a user would see; rt reads no line that begins so
+OWNER = re.compile(r"(?m)^impl(?:<.*?>)? (?:(\w+)(<\w+>)?.* for )?(\w+).*\{$")
 FUNCTION = re.compile(r"(?m)^([ \t]*)(?:pub(?:\([^)]*\))? )?(?:const |unsafe )*fn (\w+)")
 
 
@@ -10,6 +12,7 @@ FUNCTION = re.compile(r"(?m)^([ \t]*)(?:pub(?:\([^)]*\))? )?(?:const |unsafe )*f
 class Function:
     file: str
     name: str
+    owner: str  # what it is a method of, as the prover names it; empty where it is none
     first: int  # its first and last line, counted from 1, with its attributes, where an older prover begins it
     last: int
     body: str
@@ -20,9 +23,16 @@ class Function:
     def calls(self, other):
         return re.search(rf"\b{other.name}\b", self.body) is not None
 
+    def module(self):
+        return re.sub(r"/?(lib|main|mod)$", "", self.file.removeprefix("src/").removesuffix(".rt"))
+
+    def path(self):
+        """The end of the name that the prover gives it. A method is named after the module of its type, which isn't read here."""
+        return "::".join([self.owner or self.module().replace("/", "::"), self.name]).removeprefix("::")
+
     def proofs(self):
         """The files of its proofs: by the module and the function; the type between them isn't read here."""
-        module = re.sub(r"/?(lib|main|mod)$", "", self.file.removeprefix("src/").removesuffix(".rt"))
+        module = self.module()
         return re.compile(rf"proofs/{module + '/' if module else ''}(?:[^/]+/)?{self.name}/[^/]+")
 
 
@@ -43,22 +53,43 @@ class Edit:
         return text
 
 
+def owner_of(text, at):
+    """What the function that begins at this place is a method of."""
+    found = [it for it in OWNER.finditer(text, 0, at)]
+    if not found or "\n}" in text[found[-1].end():at]:
+        return ""
+    trait, argument, owner = found[-1].groups()
+    return owner + (trait or "") + (argument or "").strip("<>")
+
+
 def functions_of(file, text):
     lines = text.split("\n")
     for found in FUNCTION.finditer(text):
         first = text.count("\n", 0, found.start(2)) + 1
         last = next((at for at in range(first, len(lines) + 1) if lines[at - 1] == f"{found[1]}}}"), None)
-        opens = next((at for at in range(first, last or 0) if lines[at - 1].endswith("{")), None)
+        opens = next((at for at in range(first, last or 0) if lines[at - 1].endswith(("{", ";"))), None)
         while lines[first - 2].startswith(f"{found[1]}#["):
             first -= 1
-        if opens:
-            yield Function(file, found[2], first, last, "\n".join(lines[opens:last]))
+        if opens and lines[opens - 1].endswith("{"):  # what ends with ";" is a trait's function, without a body
+            yield Function(file, found[2], owner_of(text, found.start()), first, last, "\n".join(lines[opens:last]))
+
+
+def lines_of(path):
+    with open(path, encoding="utf-8") as it:
+        return it.read().rstrip("\n").split("\n")
+
+
+def why_of(path):
+    """What a user would see if the edit's body ran, or nothing where the edit doesn't say it."""
+    first = lines_of(path)[0]
+    return first.removeprefix(WHY).strip() if first.startswith(WHY) else ""
 
 
 def read_edit(path, folder):
     """The edit, or None where it isn't of the form that is read here: rt says what is wrong with it."""
-    with open(path, encoding="utf-8") as it:
-        lines = it.read().rstrip("\n").split("\n")
+    lines = lines_of(path)
+    if lines[0].startswith(WHY):
+        del lines[0]
     if len(lines) % 2 == 0 or not lines[0].startswith("file: src/"):
         return None
     file = lines[0].removeprefix("file: ").strip()

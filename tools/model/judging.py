@@ -45,9 +45,9 @@ def answered(asked, replies):
     return good
 
 
-def replay(good, entries):
+def replay(good, entries, machine):
     """Makes the journal's entries in their order, each with the next call of its session."""
-    machine, waiting, numbers = Machine(), {}, {}
+    waiting, numbers = {}, {}
     for session, call, reply in good:
         if reply not in NO_ENTRY:
             waiting.setdefault(session, []).append((call, reply))
@@ -66,12 +66,12 @@ def replay(good, entries):
         raise Wrong("calls without an entry")
 
 
-def compare(script, output, words):
-    """How many replies were compared."""
+def compare(script, output, words, most_listed=20_000):
+    """How many replies were compared, verdicts by at most so many situations."""
     replies, entries = split_output(output)
     asked = [one for one in map(asked_by, lines_of(script)) if one is not None]
     good = answered(in_groups(asked) if "--each" in words else asked, replies)
     if "--each" not in words and [f"{s} {r}" for s, _, r in good if r not in NO_ENTRY] != [f"{e[1]} {e[3]}" for e in entries]:
         raise Wrong("the journal isn't in the order of the lines")
-    replay(good, entries)
+    replay(good, entries, Machine(most_listed))
     return len(replies)

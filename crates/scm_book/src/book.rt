@@ -206,7 +206,8 @@ impl Book {
         ensures legal { IsLegalBook self.new }
     {
         let mut steps = self.traces.new_counter(&call);
-        let (reply, _) = self.make(session, call, None, &mut steps);
+        let (reply, copies) = self.make(session, call, None, &mut steps);
+        drop(copies);
         reply
     }
 
@@ -221,9 +222,11 @@ impl Book {
         ensures legal { IsLegalBook self.new }
     {
         if self.journal.is_full() {
+            drop(call);
             return (Reply::Refused(Refusal::JournalFull), None);
         }
         let Ok(copy) = call.copy() else {
+            drop(call);
             return (Reply::Refused(Refusal::NoMemory), None);
         };
         let mut steps = self.traces.new_counter(&call);
@@ -367,7 +370,8 @@ impl Book {
         ensures counted { self.new.steps ≡ capped (self.old.steps + (steps.new - steps.old)) }
         ensures legal { IsLegalBook self.new }
     {
-        let (reply, _) = self.make(session, Call::Ask { name, mark }, None, steps);
+        let (reply, copies) = self.make(session, Call::Ask { name, mark }, None, steps);
+        drop(copies);
         reply
     }
 
@@ -379,7 +383,8 @@ impl Book {
         ensures counted { self.new.steps ≡ capped (self.old.steps + (steps.new - steps.old)) }
         ensures legal { IsLegalBook self.new }
     {
-        let (reply, _) = self.make(session, Call::Why { name, mark }, None, steps);
+        let (reply, copies) = self.make(session, Call::Why { name, mark }, None, steps);
+        drop(copies);
         reply
     }
 

@@ -4,6 +4,7 @@ ghost use Rattle.std.specs.Prelude.{◌≤◌, length, sum};
 use crate::Reply;
 use scm_sequences::Lengths;
 use std::alloc::Global;
+use std::mem;
 
 /// The longest schedule that was found for a trace, where none was found, and the order in which its operations were
 /// reported. It is no part of the machine, and nothing rests on it: what a proposal makes of it is judged anew.
@@ -143,21 +144,14 @@ impl Earlier {
 
     /// Takes the schedule of another one, which began as a copy of this one, where it isn't shorter, as far as the trace has
     /// as many operations; and where nothing changed since, what failed.
-    pub(crate) fn take_back(&mut self, other: Earlier, present: &Lengths, is_same: bool) {
-        let Earlier {
-            mut schedule,
-            reported: _,
-            failed,
-            failed_whole,
-            cuts,
-        } = other;
-        schedule.truncate(operations_in(present) as usize);
-        if schedule.len() >= self.schedule.len() {
-            self.schedule = schedule;
+    pub(crate) fn take_back(&mut self, other: &mut Earlier, present: &Lengths, is_same: bool) {
+        other.schedule.truncate(operations_in(present) as usize);
+        if other.schedule.len() >= self.schedule.len() {
+            mem::swap(&mut self.schedule, &mut other.schedule);
         }
-        if is_same && cuts == self.cuts {
-            self.failed = failed;
-            self.failed_whole = failed_whole;
+        if is_same && other.cuts == self.cuts {
+            self.failed = other.failed;
+            self.failed_whole = other.failed_whole;
         }
     }
 

@@ -10,6 +10,7 @@ ghost use Rattle.scm_book.specs.Inquiries.{CanJudge};
 
 use crate::earlier::Earlier;
 use crate::open_trace::Purpose;
+use scm_frontier::Situation;
 use scm_proposals::{is_near_end, propose};
 use scm_reach::Reach;
 use scm_schedules::is_legal;
@@ -39,6 +40,13 @@ impl Proposing<'_> {
         let newest = reach.held().checked_sub(1)?;
         let room = self.limit.checked_sub(reach.held())?;
         let situation = reach.situation(newest).ok()?;
+        let is_short = self.leads_to_end(&situation, room);
+        drop(situation);
+        is_short
+    }
+
+    /// Whether the first way from this situation leads to the end, within so many situations.
+    fn leads_to_end(&self, situation: &Situation, room: usize) -> Option<bool> {
         let mut counts = [0; MOST_PROCESSES];
         for p in 0..situation.procs() {
             *counts.get_mut(p)? = situation.count(p);

@@ -253,7 +253,8 @@ impl Traces {
         if let Err(refusal) = trace.check_owner(session) {
             return Reply::Refused(refusal);
         }
-        self.traces.shift_remove(&name);
+        let closed = self.traces.shift_remove(&name);
+        drop(closed);
         Reply::Done
     }
 

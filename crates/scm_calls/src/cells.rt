@@ -3,7 +3,6 @@ use scm_cells::{Cells, Initial, Name, Num, Width, read_initial};
 use scm_sequences::{MOST_CELLS, Refusal};
 use std::alloc::Global;
 use std::process::Abort;
-use std::test::Fail;
 
 fn name(rt: &impl Abort, word: &str) -> Name {
     Name::read(word.as_bytes()).expect(rt, "a name")
@@ -33,50 +32,35 @@ fn three_cells(rt: &impl Abort, alloc: Global) -> Cells {
     cells
 }
 
-/// Whether cell 1 is y, and what cell 0 is.
-fn has_three_cells(rt: &impl Abort, cells: &Cells) -> bool {
-    cells.len() == 3
-        && cells.name(1) == name(rt, "y")
-        && cells.width(0) == Width::W
-        && cells.initial(0) == Some(4294967295)
-}
-
-#[test]
-fn adds_cells(rt: HostRuntime) -> Result<(), Fail> {
-    let cells = three_cells(&rt, rt.alloc());
-    assert!(rt; has_three_cells(&rt, &cells));
-    let initials = cells.initials()?;
-    assert!(rt; initials.as_slice() == [Some(4294967295), Some(7), None].as_slice());
-    Ok(())
-}
-
 /// The place of each of these cells.
 fn places(rt: &impl Abort, cells: &Cells, words: [&str; 4]) -> [Option<u8>; 4] {
     words.map(|word| cells.find(&name(rt, word)))
 }
 
+fn assert_three(rt: &impl Abort, cells: &Cells) {
+    assert!(rt; cells.len() == 3);
+    assert!(rt; cells.name(1) == name(rt, "y") && cells.width(0) == Width::W);
+    assert!(rt; cells.initial(0) == Some(4294967295));
+    let initials = cells.initials().expect(rt, "memory");
+    assert!(rt; initials.as_slice() == [Some(4294967295), Some(7), None].as_slice());
+}
+
 #[test]
-fn finds_cells(rt: HostRuntime) {
+fn adds_and_finds_cells(rt: HostRuntime) {
     let cells = three_cells(&rt, rt.alloc());
+    assert_three(&rt, &cells);
     let places = places(&rt, &cells, ["x", "y", "later", "z"]);
     assert!(rt; places == [Some(0), Some(1), Some(2), None]);
 }
 
+/// A name that is there, and a value that doesn't fit.
 #[test]
-fn refuses_a_name_twice(rt: HostRuntime) {
-    let mut cells = Cells::new(rt.alloc());
-    let x = name(&rt, "x");
-    let first = cells.add(x, Width::W, given(1));
-    let again = cells.add(x, Width::D, given(2));
-    assert!(rt; first == Ok(0) && again == Err(Refusal::BadDeclaration));
-    assert!(rt; cells.len() == 1);
-}
-
-#[test]
-fn refuses_a_value_that_does_not_fit(rt: HostRuntime) {
-    let mut cells = Cells::new(rt.alloc());
-    let added = cells.add(name(&rt, "x"), Width::W, initial(&rt, "4294967296"));
-    assert!(rt; added == Err(Refusal::BadDeclaration) && cells.is_empty());
+fn refuses_a_name_twice_and_a_value_that_does_not_fit(rt: HostRuntime) {
+    let mut cells = three_cells(&rt, rt.alloc());
+    for (word, first) in [("x", "2"), ("q", "4294967296")] {
+        let added = cells.add(name(&rt, word), Width::W, initial(&rt, first));
+        assert!(rt; added == Err(Refusal::BadDeclaration) && cells.len() == 3);
+    }
 }
 
 /// Adds as many cells as the limit: a0, a1, ..

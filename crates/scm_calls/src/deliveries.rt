@@ -1,62 +1,26 @@
 //! What workers take and deliver, between the calls of a session.
 
-use crate::words::{ANNA, add_call, add_event, cell, done, load, marked, name, refuted, store};
-use scm_book::{Book, Call, Event, Reply, run_events};
-use scm_expand::{Outcome, Task, expand};
+use crate::expand::expanded;
+use crate::lending::steps_to_ask;
+use crate::words::{ANNA, call_of, name, play, played, says};
+use scm_book::{Book, Event, Reply, run_events};
+use scm_expand::{Outcome, Task};
 use scm_frontier::Steps;
-use scm_lowering::Access;
 use scm_results::{Fate, Results};
 use scm_sequences::Op;
 use std::alloc::Global;
 use std::process::Abort;
 
-/// Anna claims each process of t.
-fn claim_all(rt: &impl Abort, book: &mut Book, procs: u64) {
-    for process in 0..procs {
-        done(rt, book.claim(ANNA, name(rt, b"t"), process));
-    }
-}
+/// A process stores 1.
+const STORE: &str = "open t 1 100 x; claim t 0; do t 0 sw x 1";
 
-/// Opens t with the cell x. Anna claims each process.
-fn open_x(rt: &impl Abort, book: &mut Book, procs: u64, budget: u64) {
-    let cells = [cell(rt, b"x")];
-    done(rt, book.open(ANNA, name(rt, b"t"), procs, budget, &cells));
-    claim_all(rt, book, procs);
-}
-
-/// Anna reports an access of a process of t.
-fn report(rt: &impl Abort, book: &mut Book, process: u64, access: Access) {
-    done(rt, book.report(ANNA, name(rt, b"t"), process, &access));
-}
-
-/// Opens t with the cells x and y. Each of two processes stores 1 in its own cell, and then loads 0 from the other's.
-fn buffer_stores(rt: &impl Abort, book: &mut Book) {
-    let cells = [cell(rt, b"x"), cell(rt, b"y")];
-    done(rt, book.open(ANNA, name(rt, b"t"), 2, 100, &cells));
-    claim_all(rt, book, 2);
-    report(rt, book, 0, store(rt, b"x", 1));
-    report(rt, book, 0, load(rt, b"y", 0));
-    report(rt, book, 1, store(rt, b"y", 1));
-    report(rt, book, 1, load(rt, b"x", 0));
-}
-
-/// Opens t with the cell x under a budget of 2. Each of two processes stores in x, so 3 situations can be reached.
-fn store_twice(rt: &impl Abort, book: &mut Book) {
-    open_x(rt, book, 2, 2);
-    report(rt, book, 0, store(rt, b"x", 1));
-    report(rt, book, 1, store(rt, b"x", 2));
-}
+/// Each of two processes stores 1 in its own cell, and then loads 0 from the other's.
+const STORE_BUFFERING: &str = "open t 2 100 x y; claim t 0; claim t 1;\
+    do t 0 sw x 1; do t 0 lw y 0; do t 1 sw y 1; do t 1 lw x 0";
 
 /// The next task, if there is one.
 fn take_one(rt: &impl Abort, book: &mut Book) -> Option<Task> {
     book.take(1).expect(rt, "memory").pop()
-}
-
-fn expanded(rt: &impl Abort, task: Task) -> Outcome {
-    let Ok(outcome) = expand(task) else {
-        panic!(rt; "no memory");
-    };
-    outcome
 }
 
 /// What comes of the next task.
@@ -90,46 +54,14 @@ fn is_same(task: &Task, other: &Task) -> bool {
         && task.situation == other.situation
 }
 
-/// Whether t is consistent, and how many steps that took.
-fn ask(rt: &impl Abort, book: &mut Book) -> (Reply, u64) {
-    let t = name(rt, b"t");
-    let mut steps = Steps::new();
-    if !book.has_room(&t, &steps) {
-        panic!(rt; "no room");
-    }
-    let reply = book.ask(ANNA, t, None, &mut steps);
-    (reply, steps.made())
-}
-
-/// How many steps it takes to find out that t is not consistent.
-fn steps_to_ask(rt: &impl Abort, book: &mut Book) -> u64 {
-    let (reply, steps) = ask(rt, book);
-    refuted(rt, reply);
-    steps
-}
-
-/// How many steps it takes to find out why.
+/// By how many steps it is found out why t is inconsistent.
 fn steps_to_refute(rt: &impl Abort, book: &mut Book) -> u64 {
     let t = name(rt, b"t");
     let mut steps = Steps::new();
-    if !book.has_room(&t, &steps) {
-        panic!(rt; "no room");
-    }
+    assert!(rt; book.has_room(&t, &steps));
     let reply = book.why(ANNA, t, None, &mut steps);
     assert!(rt; matches!(reply, Reply::Because(_)));
     steps.made()
-}
-
-fn assert_schedule(rt: &impl Abort, reply: Reply, schedule: &[u8]) {
-    let Reply::Consistent {
-        schedule: given,
-        fixed,
-    } = reply
-    else {
-        panic!(rt; "not consistent");
-    };
-    assert!(rt; given.as_slice() == schedule);
-    assert!(rt; fixed.is_empty());
 }
 
 /// Takes the next task and delivers what comes of it, if there is one.
@@ -151,29 +83,18 @@ fn work_off(rt: &impl Abort, alloc: Global, book: &mut Book) {
     panic!(rt; "tasks without end");
 }
 
-/// Closes t, and opens u, which is just as t was.
-fn go_to_another(rt: &impl Abort, book: &mut Book) {
-    done(rt, book.close(ANNA, name(rt, b"t")));
-    let cells = [cell(rt, b"x")];
-    done(rt, book.open(ANNA, name(rt, b"u"), 1, 100, &cells));
-}
-
 // An outcome is stale where its trace is gone, whatever else is open. It counts for a trace that was opened again, where it
 // is a step of that trace too.
 #[test]
 fn reopened(rt: HostRuntime) {
-    let mut book = Book::new(rt.alloc());
-    open_x(&rt, &mut book, 1, 100);
-    report(&rt, &mut book, 0, store(&rt, b"x", 1));
+    let mut book = played(&rt, rt.alloc(), STORE);
     let outcome = next_outcome(&rt, &mut book);
-    go_to_another(&rt, &mut book);
+    play(&rt, rt.alloc(), &mut book, "close t; open u 1 100 x");
     deliver(&rt, rt.alloc(), &mut book, &outcome, Fate::Stale);
-    open_x(&rt, &mut book, 1, 100);
-    report(&rt, &mut book, 0, store(&rt, b"x", 1));
+    play(&rt, rt.alloc(), &mut book, STORE);
     deliver(&rt, rt.alloc(), &mut book, &outcome, Fate::Accepted);
     deliver(&rt, rt.alloc(), &mut book, &outcome, Fate::Known);
-    let (reply, _) = ask(&rt, &mut book);
-    assert_schedule(&rt, reply, &[0]);
+    play(&rt, rt.alloc(), &mut book, "ask t => consistent 0");
 }
 
 fn assert_comes_again(rt: &impl Abort, first: &Task, second: &Task, third: &Task) {
@@ -204,63 +125,65 @@ fn overfill(rt: &impl Abort, alloc: Global, book: &mut Book, first: Outcome, sec
 // set full, and room once the budget was raised.
 #[test]
 fn full_then_room(rt: HostRuntime) {
-    let mut book = Book::new(rt.alloc());
-    store_twice(&rt, &mut book);
+    let mut book = played(
+        &rt,
+        rt.alloc(),
+        "open t 2 2 x; claim t 0; claim t 1; do t 0 sw x 1; do t 1 sw x 2",
+    );
     let (first, second) = take_two(&rt, &mut book);
     let first = expanded(&rt, first);
     let second = expanded(&rt, second);
     overfill(&rt, rt.alloc(), &mut book, first, &second);
-    done(&rt, book.raise(ANNA, name(&rt, b"t"), 5));
+    play(&rt, rt.alloc(), &mut book, "raise t 5");
     deliver(&rt, rt.alloc(), &mut book, &second, Fate::Accepted);
 }
 
-fn assert_leads_nowhere(rt: &impl Abort, outcome: &Outcome) {
+/// It leads nowhere.
+fn next_illegal(rt: &impl Abort, book: &mut Book) -> Outcome {
+    let outcome = next_outcome(rt, book);
     assert!(rt; outcome.next().is_none());
+    outcome
 }
 
 fn assert_nothing_to_take(rt: &impl Abort, book: &mut Book) {
-    let task = take_one(rt, book);
-    assert!(rt; task.is_none());
+    assert!(rt; take_one(rt, book).is_none());
 }
 
 // A load of another value than its cell holds leads nowhere, and that is found out once.
 #[test]
 fn no_step(rt: HostRuntime) {
-    let mut book = Book::new(rt.alloc());
-    open_x(&rt, &mut book, 1, 100);
-    report(&rt, &mut book, 0, load(&rt, b"x", 1));
-    let outcome = next_outcome(&rt, &mut book);
-    assert_leads_nowhere(&rt, &outcome);
+    let mut book = played(&rt, rt.alloc(), "open t 1 100 x; claim t 0; do t 0 lw x 1");
+    let outcome = next_illegal(&rt, &mut book);
     deliver(&rt, rt.alloc(), &mut book, &outcome, Fate::Known);
     assert_nothing_to_take(&rt, &mut book);
 }
 
-/// The task was that process 0 stores 1 in x.
-fn assert_first_store(rt: &impl Abort, task: &Task) {
+/// Process 0 stores 1 in x.
+fn next_store(rt: &impl Abort, book: &mut Book) -> Outcome {
+    let outcome = next_outcome(rt, book);
+    let task = outcome.task();
     assert!(rt; task.process == 0 && task.op == Op::W { cell: 0, value: 1 });
+    outcome
 }
 
 // The situation of an outcome is still there after a return, but another operation is the next one.
 #[test]
 fn late_outcome(rt: HostRuntime) {
-    let mut book = Book::new(rt.alloc());
-    open_x(&rt, &mut book, 2, 100);
-    marked(&rt, book.mark(ANNA, name(&rt, b"t")));
-    report(&rt, &mut book, 0, store(&rt, b"x", 1));
-    let outcome = next_outcome(&rt, &mut book);
-    assert_first_store(&rt, outcome.task());
-    done(&rt, book.back(ANNA, name(&rt, b"t"), 0));
-    report(&rt, &mut book, 0, store(&rt, b"x", 2));
+    let mut book = played(
+        &rt,
+        rt.alloc(),
+        "open t 2 100 x; claim t 0; claim t 1; mark t => ok 0; do t 0 sw x 1",
+    );
+    let outcome = next_store(&rt, &mut book);
+    play(&rt, rt.alloc(), &mut book, "back t 0; do t 0 sw x 2");
     deliver(&rt, rt.alloc(), &mut book, &outcome, Fate::Stale);
-    report(&rt, &mut book, 1, load(&rt, b"x", 2));
-    let (reply, _) = ask(&rt, &mut book);
-    assert_schedule(&rt, reply, &[0, 1]);
+    play(
+        &rt,
+        rt.alloc(),
+        &mut book,
+        "do t 1 lw x 2; ask t => consistent 01",
+    );
     deliver(&rt, rt.alloc(), &mut book, &outcome, Fate::Stale);
-}
-
-/// Steps were made, and no more than there are.
-fn assert_few(rt: &impl Abort, made: u64) {
-    assert!(rt; 0 < made && made <= 14);
 }
 
 /// What workers found out about the stores.
@@ -272,54 +195,62 @@ fn assert_worked_off(rt: &impl Abort, results: &Results) {
 // What a question found out is spared the next one, and what workers found out too. The book counts all steps.
 #[test]
 fn steps_kept(rt: HostRuntime) {
-    let mut book = Book::new(rt.alloc());
-    buffer_stores(&rt, &mut book);
-    let made = steps_to_ask(&rt, &mut book);
-    assert_few(&rt, made);
-    let again = [
-        steps_to_ask(&rt, &mut book),
-        steps_to_refute(&rt, &mut book),
-    ];
-    assert!(rt; again == [0, 0]);
-    done(&rt, book.close(ANNA, name(&rt, b"t")));
-    buffer_stores(&rt, &mut book);
+    let mut book = played(&rt, rt.alloc(), STORE_BUFFERING);
+    let made = steps_to_ask(&rt, &mut book, "inconsistent");
+    let again = steps_to_ask(&rt, &mut book, "inconsistent");
+    let refuting = steps_to_refute(&rt, &mut book);
+    play(&rt, rt.alloc(), &mut book, "close t");
+    play(&rt, rt.alloc(), &mut book, STORE_BUFFERING);
     work_off(&rt, rt.alloc(), &mut book);
     assert_worked_off(&rt, &book.results());
-    let spared = steps_to_ask(&rt, &mut book);
-    assert!(rt; spared == 0 && book.steps() == made);
+    let spared = steps_to_ask(&rt, &mut book, "inconsistent");
+    assert!(rt; 0 < made && made <= 14 && book.steps() == made);
+    assert!(rt; [again, refuting, spared] == [0, 0, 0]);
 }
 
 /// Calls of Anna, with a taking and a delivery between them.
 fn mixed_events(rt: &impl Abort, alloc: Global, outcome: Outcome) -> Vec<Event> {
-    let name = name(rt, b"t");
     let mut events = Vec::new(alloc);
-    add_call(rt, &mut events, ANNA, Call::ListTraces);
-    add_event(rt, &mut events, Event::Take(3));
-    add_call(rt, &mut events, ANNA, Call::Ask { name, mark: None });
-    add_event(rt, &mut events, Event::Deliver(only(rt, alloc, outcome)));
-    add_call(rt, &mut events, ANNA, Call::CloseTrace { name });
+    add_call(rt, alloc, &mut events, "list");
+    events.push(Event::Take(3)).expect(rt, "memory");
+    add_call(rt, alloc, &mut events, "ask t");
+    add_delivery(rt, alloc, &mut events, outcome);
+    add_call(rt, alloc, &mut events, "close t");
     events
 }
 
-fn are_mixed_replies(replies: &[Reply]) -> bool {
-    matches!(
-        replies,
-        [Reply::Traces(_), Reply::Inconsistent, Reply::Done]
-    )
+fn add_call(rt: &impl Abort, alloc: Global, events: &mut Vec<Event>, line: &str) {
+    let call = call_of(rt, alloc, line);
+    let session = ANNA;
+    events
+        .push(Event::CallBy { session, call })
+        .expect(rt, "memory");
 }
 
-// Calls alone get a reply.
+fn add_delivery(rt: &impl Abort, alloc: Global, events: &mut Vec<Event>, outcome: Outcome) {
+    let event = Event::Deliver(only(rt, alloc, outcome));
+    events.push(event).expect(rt, "memory");
+}
+
+/// Calls alone get a reply. One task was taken before the events, and one was left for the taking among them.
+fn assert_mixed(rt: &impl Abort, book: &Book, replies: &[Reply]) {
+    assert!(rt;
+        matches!(
+            replies,
+            [Reply::Traces(_), Reply::Inconsistent, Reply::Done]
+        )
+    );
+    let results = book.results();
+    assert!(rt; results.taken == 2 && results.delivered() == 1);
+}
+
 #[test]
 fn events_mixed(rt: HostRuntime) {
-    let mut book = Book::new(rt.alloc());
-    buffer_stores(&rt, &mut book);
+    let mut book = played(&rt, rt.alloc(), STORE_BUFFERING);
     let outcome = next_outcome(&rt, &mut book);
     let events = mixed_events(&rt, rt.alloc(), outcome);
     let Ok((book, replies)) = run_events(rt.alloc(), book, events) else {
         panic!(&rt; "no memory");
     };
-    assert!(rt; are_mixed_replies(&replies));
-    // one task was taken before the events, and one was left for the taking among them
-    let results = book.results();
-    assert!(rt; results.taken == 2 && results.delivered() == 1);
+    assert_mixed(&rt, &book, &replies);
 }

@@ -1,65 +1,48 @@
 //! Questions that are lent by a book, and what is taken back after whatever happened meanwhile.
 
-use crate::words::{ANNA, cell, done, load, marked, name, refuted, store};
-use scm_book::{Book, Call, Decl, Inquiry, Reply};
-use scm_cells::{Initial, Num};
+use crate::words::{ANNA, call_of, name, play, played, says};
+use scm_book::{Book, Inquiry};
 use scm_frontier::Steps;
 use std::alloc::Global;
 use std::process::Abort;
 
-const BUDGET: u64 = 5_000;
 /// So many stores each of three writers makes, in a cell of its own.
-pub(crate) const STORES: u64 = 9;
+const STORES: u64 = 9;
+
 /// What a question about them finds: each number of stores of each writer.
 pub(crate) const SITUATIONS: usize = 1_000;
 
-/// Opens t: each of three processes stores in its own cell, and the fourth loads from the first one what nobody stored.
-pub(crate) fn open_forbidden(rt: &impl Abort, book: &mut Book) {
-    open_with(rt, book, BUDGET, cell(rt, b"x"));
-}
+/// Each of three processes stores in its own cell, and the fourth loads from the first one what nobody stored.
+pub(crate) const OPEN: &str = "open t 4 5000 x y z; claim t 0; claim t 1; claim t 2; claim t 3";
 
-/// The same with this budget, and this cell for the first one.
-fn open_with(rt: &impl Abort, book: &mut Book, budget: u64, first: Decl) {
-    let t = name(rt, b"t");
-    let cells = [first, cell(rt, b"y"), cell(rt, b"z")];
-    done(rt, book.open(ANNA, t, 4, budget, &cells));
-    for process in 0..4 {
-        done(rt, book.claim(ANNA, t, process));
-    }
-}
+pub(crate) const FORBIDDEN: &str = "do t 3 lw x 10";
 
-pub(crate) fn report_stores(rt: &impl Abort, book: &mut Book, from: u64) {
-    let t = name(rt, b"t");
+const STORE: [&str; 3] = ["do t 0 sw x", "do t 1 sw y", "do t 2 sw z"];
+
+pub(crate) fn report_stores(rt: &impl Abort, alloc: Global, book: &mut Book, from: u64) {
     for value in from..=STORES {
-        done(rt, book.report(ANNA, t, 0, &store(rt, b"x", value)));
-        done(rt, book.report(ANNA, t, 1, &store(rt, b"y", value)));
-        done(rt, book.report(ANNA, t, 2, &store(rt, b"z", value)));
+        for store in STORE {
+            let line = format!(in alloc; "{store} {value}").expect(rt, "memory");
+            play(rt, alloc, book, &line);
+        }
     }
 }
 
-pub(crate) fn report_forbidden(rt: &impl Abort, book: &mut Book) {
-    let t = name(rt, b"t");
-    done(rt, book.report(ANNA, t, 3, &load(rt, b"x", STORES + 1)));
+/// A book with such a trace.
+pub(crate) fn forbidden(rt: &impl Abort, alloc: Global) -> Book {
+    forbidden_in(rt, alloc, OPEN)
 }
 
-pub(crate) fn forbidden(rt: &impl Abort, alloc: Global) -> Book {
-    let mut book = Book::new(alloc);
-    open_forbidden(rt, &mut book);
-    report_stores(rt, &mut book, 1);
-    report_forbidden(rt, &mut book);
+fn forbidden_in(rt: &impl Abort, alloc: Global, open: &str) -> Book {
+    let mut book = played(rt, alloc, open);
+    report_stores(rt, alloc, &mut book, 1);
+    play(rt, alloc, &mut book, FORBIDDEN);
     book
 }
 
-fn lent(rt: &impl Abort, book: &mut Book) -> Inquiry {
-    let ask = Call::Ask {
-        name: name(rt, b"t"),
-        mark: None,
-    };
-    book.lend(&ask).expect(rt, "a question")
-}
-
-fn searched(rt: &impl Abort, book: &mut Book) -> Inquiry {
-    let mut inquiry = lent(rt, book);
+fn searched(rt: &impl Abort, alloc: Global, book: &mut Book) -> Inquiry {
+    let lent = book.lend(&call_of(rt, alloc, "ask t"));
+    let mut inquiry = lent.expect(rt, "a question");
     inquiry.search();
     inquiry
 }
@@ -70,52 +53,30 @@ pub(crate) fn assert_held(rt: &impl Abort, book: &Book, count: usize) {
     assert!(rt; held == Some(count));
 }
 
-/// What the question under the book is answered, and its steps.
-fn answer(rt: &impl Abort, book: &mut Book) -> (Reply, u64) {
+/// By how many steps t gets this answer under the book.
+pub(crate) fn steps_to_ask(rt: &impl Abort, book: &mut Book, wanted: &str) -> u64 {
     let t = name(rt, b"t");
     let mut steps = Steps::new();
-    if !book.has_room(&t, &steps) {
-        panic!(rt; "no room");
-    }
+    assert!(rt; book.has_room(&t, &steps));
     let reply = book.ask(ANNA, t, None, &mut steps);
-    (reply, steps.made())
-}
-
-pub(crate) fn assert_consistent(rt: &impl Abort, book: &mut Book) {
-    let (reply, _) = answer(rt, book);
-    assert!(rt; matches!(reply, Reply::Consistent { .. }));
-}
-
-/// The question under the book, and whether it is inconsistent; gives its steps.
-fn steps_of_refuted(rt: &impl Abort, book: &mut Book) -> u64 {
-    let (reply, steps) = answer(rt, book);
-    refuted(rt, reply);
-    steps
+    assert!(rt; says(&reply, wanted));
+    steps.made()
 }
 
 /// The question is inconsistent, and takes no step.
 pub(crate) fn assert_spared(rt: &impl Abort, book: &mut Book) {
-    let steps = steps_of_refuted(rt, book);
-    assert!(rt; steps == 0);
+    assert!(rt; steps_to_ask(rt, book, "inconsistent") == 0);
 }
 
 /// It is inconsistent, and takes steps.
 fn assert_searched(rt: &impl Abort, book: &mut Book) {
-    let steps = steps_of_refuted(rt, book);
-    assert!(rt; steps > 0);
-}
-
-fn lends(book: &mut Book, call: &Call) -> bool {
-    let lent = book.lend(call);
-    let is_lent = lent.is_some();
-    drop(lent);
-    is_lent
+    assert!(rt; steps_to_ask(rt, book, "inconsistent") > 0);
 }
 
 #[test]
 fn what_was_found_spares_the_question(rt: HostRuntime) {
     let mut book = forbidden(&rt, rt.alloc());
-    let inquiry = searched(&rt, &mut book);
+    let inquiry = searched(&rt, rt.alloc(), &mut book);
     assert_held(&rt, &book, 1);
     book.take_back(inquiry);
     assert_held(&rt, &book, SITUATIONS);
@@ -125,114 +86,85 @@ fn what_was_found_spares_the_question(rt: HostRuntime) {
 #[test]
 fn a_lost_question_is_asked_anew(rt: HostRuntime) {
     let mut book = forbidden(&rt, rt.alloc());
-    let _ = searched(&rt, &mut book);
+    let _ = searched(&rt, rt.alloc(), &mut book);
     assert_searched(&rt, &mut book);
     assert_held(&rt, &book, SITUATIONS);
 }
 
-#[test]
-fn a_report_meanwhile_cuts_nothing(rt: HostRuntime) {
-    let mut book = forbidden(&rt, rt.alloc());
-    let inquiry = searched(&rt, &mut book);
-    let t = name(&rt, b"t");
-    done(&rt, book.report(ANNA, t, 0, &store(&rt, b"x", 77)));
-    book.take_back(inquiry);
-    assert_held(&rt, &book, SITUATIONS);
-    assert_searched(&rt, &mut book);
-}
+/// What happens to a trace while a question about it is away: how it was opened, the calls meanwhile, from which store on it
+/// has stores then, how many situations are held once the question was taken back, and the answer to the next one.
+///
+/// - A report cuts nothing.
+/// - A return leaves what is in common: what was reported since the mark is reported anew, the last store of x otherwise.
+/// - Another trace of the name takes what is in common, but for other first contents or a smaller budget.
+const MEANWHILE: [(&str, &str, u64, usize, &str); 5] = [
+    (OPEN, "do t 0 sw x 77", 10, SITUATIONS, "inconsistent"),
+    (MARKED, "back t 0", STORES, 1, "consistent"),
+    (OPEN, REOPENED, 1, SITUATIONS, "consistent"),
+    (OPEN, WITH_FIVE, 1, 1, "consistent"),
+    (OPEN, WITH_LESS, 1, 1, "consistent"),
+];
 
-/// What was reported since the mark is reported anew, the last store of x otherwise.
+const MARKED: &str =
+    "open t 4 5000 x y z; claim t 0; claim t 1; claim t 2; claim t 3; mark t => ok 0";
+
+const REOPENED: &str = "close t; open t 4 5000 x y z; claim t 0; claim t 1; claim t 2; claim t 3";
+
+const WITH_FIVE: &str =
+    "close t; open t 4 5000 x=5 y z; claim t 0; claim t 1; claim t 2; claim t 3";
+
+const WITH_LESS: &str = "close t; open t 4 999 x y z; claim t 0; claim t 1; claim t 2; claim t 3";
+
 #[test]
-fn a_return_meanwhile_leaves_what_is_in_common(rt: HostRuntime) {
-    let mut book = Book::new(rt.alloc());
-    let t = name(&rt, b"t");
-    open_forbidden(&rt, &mut book);
-    marked(&rt, book.mark(ANNA, t));
-    report_stores(&rt, &mut book, 1);
-    report_forbidden(&rt, &mut book);
-    let inquiry = searched(&rt, &mut book);
-    done(&rt, book.back(ANNA, t, 0));
-    report_stores(&rt, &mut book, STORES);
-    book.take_back(inquiry);
-    assert_held(&rt, &book, 1);
-    assert_consistent(&rt, &mut book);
+fn what_happens_meanwhile_is_told_apart(rt: HostRuntime) {
+    for (open, calls, from, held, answer) in MEANWHILE {
+        let mut book = forbidden_in(&rt, rt.alloc(), open);
+        let inquiry = searched(&rt, rt.alloc(), &mut book);
+        play(&rt, rt.alloc(), &mut book, calls);
+        report_stores(&rt, rt.alloc(), &mut book, from);
+        book.take_back(inquiry);
+        assert_held(&rt, &book, held);
+        let _steps = steps_to_ask(&rt, &mut book, answer);
+    }
 }
 
 #[test]
 fn a_closed_trace_takes_nothing_back(rt: HostRuntime) {
     let mut book = forbidden(&rt, rt.alloc());
-    let inquiry = searched(&rt, &mut book);
-    let t = name(&rt, b"t");
-    done(&rt, book.close(ANNA, t));
+    let inquiry = searched(&rt, rt.alloc(), &mut book);
+    play(&rt, rt.alloc(), &mut book, "close t");
     book.take_back(inquiry);
-    let held = book.held(&t);
-    assert!(rt; held.is_none());
-}
-
-#[test]
-fn another_trace_of_the_name_takes_what_is_in_common(rt: HostRuntime) {
-    let mut book = forbidden(&rt, rt.alloc());
-    let inquiry = searched(&rt, &mut book);
-    done(&rt, book.close(ANNA, name(&rt, b"t")));
-    open_forbidden(&rt, &mut book);
-    report_stores(&rt, &mut book, 1);
-    book.take_back(inquiry);
-    assert_held(&rt, &book, SITUATIONS);
-    assert_consistent(&rt, &mut book);
-}
-
-/// The trace is closed and opened anew, with this budget and this cell for the first one. Then the question is taken back.
-fn taken_by_another(rt: &impl Abort, book: &mut Book, budget: u64, first: Decl) {
-    let inquiry = searched(rt, book);
-    done(rt, book.close(ANNA, name(rt, b"t")));
-    open_with(rt, book, budget, first);
-    report_stores(rt, book, 1);
-    book.take_back(inquiry);
-}
-
-#[test]
-fn other_first_contents_take_nothing(rt: HostRuntime) {
-    let mut book = forbidden(&rt, rt.alloc());
-    let first = Decl {
-        initial: Initial::Given(Num::Plain(5)),
-        ..cell(&rt, b"x")
-    };
-    taken_by_another(&rt, &mut book, BUDGET, first);
-    assert_held(&rt, &book, 1);
-}
-
-#[test]
-fn a_smaller_budget_takes_nothing(rt: HostRuntime) {
-    let mut book = forbidden(&rt, rt.alloc());
-    taken_by_another(&rt, &mut book, SITUATIONS as u64 - 1, cell(&rt, b"x"));
-    assert_held(&rt, &book, 1);
+    assert!(rt; book.held(&name(&rt, b"t")).is_none());
 }
 
 /// The budget is spent, and raised while the question is away: the next one goes on from there.
 #[test]
 fn a_raised_budget_goes_on(rt: HostRuntime) {
-    let mut book = Book::new(rt.alloc());
-    open_with(&rt, &mut book, 500, cell(&rt, b"x"));
-    report_stores(&rt, &mut book, 1);
-    report_forbidden(&rt, &mut book);
-    let inquiry = searched(&rt, &mut book);
-    done(&rt, book.raise(ANNA, name(&rt, b"t"), BUDGET));
+    let mut book = forbidden_in(
+        &rt,
+        rt.alloc(),
+        "open t 4 500 x y z; claim t 0; claim t 1; claim t 2; claim t 3",
+    );
+    let inquiry = searched(&rt, rt.alloc(), &mut book);
+    play(&rt, rt.alloc(), &mut book, "raise t 5000");
     book.take_back(inquiry);
     assert_held(&rt, &book, 500);
-    let spared = steps_of_refuted(&rt, &mut book);
-    let steps = steps_of_refuted(&rt, &mut forbidden(&rt, rt.alloc()));
+    let spared = steps_to_ask(&rt, &mut book, "inconsistent");
+    let steps = steps_to_ask(&rt, &mut forbidden(&rt, rt.alloc()), "inconsistent");
     assert!(rt; 0 < spared && spared < steps);
+}
+
+fn assert_not_lent(rt: &impl Abort, alloc: Global, book: &mut Book, line: &str) {
+    let lent = book.lend(&call_of(rt, alloc, line));
+    assert!(rt; lent.is_none());
 }
 
 #[test]
 fn nothing_is_lent_where_the_answer_is_there(rt: HostRuntime) {
     let mut book = forbidden(&rt, rt.alloc());
-    steps_of_refuted(&rt, &mut book);
-    let ask = Call::Ask {
-        name: name(&rt, b"t"),
-        mark: None,
-    };
-    let is_lent = lends(&mut book, &ask);
+    assert_searched(&rt, &mut book);
+    for line in ["ask t", "list"] {
+        assert_not_lent(&rt, rt.alloc(), &mut book, line);
+    }
     assert_held(&rt, &book, SITUATIONS);
-    assert!(rt; !is_lent && !lends(&mut book, &Call::ListTraces));
 }

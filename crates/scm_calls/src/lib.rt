@@ -8,15 +8,11 @@ mod again;
 #[cfg(test)]
 mod amo;
 #[cfg(test)]
-mod amo_corners;
-#[cfg(test)]
 mod book;
 #[cfg(test)]
 mod budget;
 #[cfg(test)]
 mod cells;
-#[cfg(test)]
-mod cutting;
 #[cfg(test)]
 mod deliveries;
 #[cfg(test)]
@@ -24,27 +20,19 @@ mod expand;
 #[cfg(test)]
 mod idle;
 #[cfg(test)]
-mod initials;
-#[cfg(test)]
 mod lending;
-#[cfg(test)]
-mod lowering;
 #[cfg(test)]
 mod marks;
 #[cfg(test)]
-mod names;
-#[cfg(test)]
-mod numbers;
-#[cfg(test)]
 mod pile;
+#[cfg(test)]
+mod reading;
 #[cfg(test)]
 mod results;
 #[cfg(test)]
 mod sequences;
 #[cfg(test)]
 mod shared;
-#[cfg(test)]
-mod shared_words;
 #[cfg(test)]
 mod shared_workers;
 #[cfg(test)]

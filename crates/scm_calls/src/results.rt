@@ -1,4 +1,4 @@
-//! Worked sums, and the greatest total as a number.
+//! A worked sum: that a total stays at the greatest number.
 use scm_results::{Fate, Results};
 
 const FATES: [Fate; 5] = [
@@ -10,55 +10,16 @@ const FATES: [Fate; 5] = [
 ];
 
 #[test]
-fn counts_each_fate_once(rt: HostRuntime) {
+fn counts_each_fate_and_adds_them(rt: HostRuntime) {
     let mut results = Results::new();
+    results.known = u64::MAX - 1;
     results.take(7);
     for fate in FATES {
         results.deliver(fate);
-        assert!(rt; results.of(fate) == 1);
     }
-    assert!(rt; results.delivered() == 5);
-    assert!(rt; results.taken == 7);
-}
-
-#[test]
-fn a_total_stays_at_the_greatest_number(rt: HostRuntime) {
-    let mut results = Results::new();
-    results.known = 18_446_744_073_709_551_615;
-    results.deliver(Fate::Known);
-    results.deliver(Fate::Stale);
-    assert!(rt; results.of(Fate::Known) == 18_446_744_073_709_551_615);
-    assert!(rt; results.of(Fate::Stale) == 1);
-    assert!(rt; results.delivered() == 18_446_744_073_709_551_615);
-}
-
-#[test]
-fn adds_each_total(rt: HostRuntime) {
-    let mut results = Results {
-        taken: 9,
-        accepted: 1,
-        known: 2,
-        stale: 3,
-        full: 4,
-        refused: 5,
-    };
-    let other = Results {
-        taken: 100,
-        accepted: 10,
-        known: 20,
-        stale: 30,
-        full: 40,
-        refused: 50,
-    };
+    let other = results;
     results.add(&other);
-    let sum = Results {
-        taken: 109,
-        accepted: 11,
-        known: 22,
-        stale: 33,
-        full: 44,
-        refused: 55,
-    };
-    assert!(rt; results == sum);
-    assert!(rt; results.delivered() == 165);
+    let totals = FATES.map(|fate| results.of(fate));
+    assert!(rt; totals == [2, u64::MAX, 2, 2, 2] && results.taken == 14);
+    assert!(rt; results.delivered() == u64::MAX && other.delivered() == u64::MAX);
 }

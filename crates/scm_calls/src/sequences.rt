@@ -1,109 +1,96 @@
-//! What no clause says: that calls succeed, and the spellings of the refusals.
+//! What no clause says of operations and their lists: that calls succeed.
 use scm_sequences::{Lengths, MOST_OPERATIONS, MOST_PROCESSES, Op, Refusal, Sequences};
 use std::alloc::Global;
 use std::process::Abort;
-
-pub(crate) fn made(rt: &impl Abort, alloc: Global, procs: usize) -> Sequences {
-    assert!(rt; 0 < procs && procs <= 4);
-    Sequences::new(alloc, procs).expect(rt, "memory")
-}
-
-pub(crate) fn push(rt: &impl Abort, sequences: &mut Sequences, p: usize, op: Op) {
-    sequences.push(p, op).expect(rt, "room for an operation");
-}
 
 const WRITE: Op = Op::W { cell: 0, value: 7 };
 
 const READ: Op = Op::R { cell: 1, value: 0 };
 
+const SWAP: Op = Op::Rw {
+    cell: 0,
+    old: 5,
+    new: 6,
+};
+
+fn made(rt: &impl Abort, alloc: Global, procs: usize) -> Sequences {
+    assert!(rt; 0 < procs && procs <= 4);
+    Sequences::new(alloc, procs).expect(rt, "memory")
+}
+
 /// Process 1 of two writes and then reads.
-fn check_sequences(rt: &impl Abort, sequences: &Sequences) {
-    assert!(rt; sequences.procs() == 2);
-    assert!(rt; sequences.next(1, 0) == Some(WRITE));
-    assert!(rt; sequences.next(1, 1) == Some(READ));
-    assert!(rt; sequences.next(0, 0) == None);
-    assert!(rt; sequences.next(1, 2) == None);
-    assert!(rt; sequences.next(2, 0) == None);
-    assert!(rt; sequences.count(1) == 2);
-    assert!(rt; sequences.names_cells_below(2));
-    assert!(rt; !sequences.names_cells_below(1));
+fn write_and_read(rt: &impl Abort, alloc: Global) -> Sequences {
+    let mut sequences = made(rt, alloc, 2);
+    for op in [WRITE, READ] {
+        assert!(rt; sequences.push(1, op) == Ok(()));
+        assert!(rt; sequences.push(2, op) == Err(Refusal::NoSuchProcess));
+    }
+    sequences
+}
+
+/// The process has these operations, and no third one.
+fn assert_sequence(rt: &impl Abort, sequences: &Sequences, p: usize, ops: [Option<Op>; 2]) {
+    let found = [0, 1, 2].map(|place| sequences.next(p, place));
+    assert!(rt; found == [ops[0], ops[1], None]);
 }
 
 #[test]
 fn keeps_each_sequence_in_its_order(rt: HostRuntime) {
-    let mut sequences = made(&rt, rt.alloc(), 2);
-    push(&rt, &mut sequences, 1, WRITE);
-    push(&rt, &mut sequences, 1, READ);
-    assert!(rt; sequences.push(2, WRITE) == Err(Refusal::NoSuchProcess));
-    check_sequences(&rt, &sequences);
+    let sequences = write_and_read(&rt, rt.alloc());
+    assert!(rt; sequences.procs() == 2 && sequences.count(1) == 2);
+    for (p, ops) in [
+        (0, [None, None]),
+        (1, [Some(WRITE), Some(READ)]),
+        (2, [None, None]),
+    ] {
+        assert_sequence(&rt, &sequences, p, ops);
+    }
+    assert!(rt; sequences.names_cells_below(2) && !sequences.names_cells_below(1));
+}
+
+#[test]
+fn a_cut_keeps_the_first_operations(rt: HostRuntime) {
+    let mut sequences = write_and_read(&rt, rt.alloc());
+    let lengths = Lengths::new(rt.alloc(), &[0, 1]);
+    assert!(rt; lengths.within(&sequences.lengths()));
+    sequences.cut(&lengths);
+    assert!(rt; sequences.procs() == 2);
+    assert_sequence(&rt, &sequences, 1, [Some(WRITE), None]);
 }
 
 #[test]
 fn a_sequence_is_full_at_the_limit(rt: HostRuntime) {
-    let swap = Op::Rw {
-        cell: 3,
-        old: 0,
-        new: 0,
-    };
     let mut sequences = made(&rt, rt.alloc(), 1);
     for _ in 0..MOST_OPERATIONS {
-        push(&rt, &mut sequences, 0, swap);
+        sequences.push(0, SWAP).expect(&rt, "room for an operation");
     }
-    assert!(rt; sequences.push(0, swap) == Err(Refusal::SequenceFull));
+    assert!(rt; sequences.push(0, SWAP) == Err(Refusal::SequenceFull));
     assert!(rt; sequences.count(0) == 1_000_000);
 }
 
-fn is_within(rt: &impl Abort, alloc: Global, counts: &[u32], lengths: &Lengths) -> bool {
-    assert!(rt; counts.len() <= MOST_PROCESSES);
-    Lengths::new(alloc, counts).within(lengths)
-}
-
-/// These are the lengths 0, 0 and 1.
-fn check_lengths(rt: &impl Abort, alloc: Global, lengths: &Lengths) {
-    assert!(rt; lengths.procs() == 3);
-    assert!(rt; lengths.get(0) == 0);
-    assert!(rt; lengths.get(2) == 1);
-    for (counts, within) in [([0, 0, 0], true), ([0, 0, 1], true), ([1, 0, 0], false)] {
-        assert!(rt; is_within(rt, alloc, &counts, lengths) == within);
-    }
-    assert!(rt; !is_within(rt, alloc, &[0, 0], lengths));
+/// Whether these are lengths within those of a trace of three processes, the last of which wrote once.
+fn is_within(rt: &impl Abort, alloc: Global, counts: &[u32]) -> bool {
+    let mut sequences = made(rt, alloc, 3);
+    assert!(rt; sequences.push(2, WRITE) == Ok(()));
+    let lengths = sequences.lengths();
+    assert!(rt; lengths.procs() == 3 && counts.len() <= MOST_PROCESSES);
+    assert!(rt; lengths.get(0) == 0 && lengths.get(2) == 1);
+    Lengths::new(alloc, counts).within(&lengths)
 }
 
 #[test]
 fn compares_lengths(rt: HostRuntime) {
-    let mut sequences = made(&rt, rt.alloc(), 3);
-    push(&rt, &mut sequences, 2, WRITE);
-    check_lengths(&rt, rt.alloc(), &sequences.lengths());
+    for (counts, within) in [([0, 0, 0], true), ([0, 0, 1], true), ([1, 0, 0], false)] {
+        assert!(rt; is_within(&rt, rt.alloc(), &counts) == within);
+    }
+    assert!(rt; !is_within(&rt, rt.alloc(), &[0, 0]));
 }
 
 #[test]
 fn a_read_finds_its_value_or_an_open_cell(rt: HostRuntime) {
-    let read = Op::R { cell: 0, value: 5 };
-    let swap = Op::Rw {
-        cell: 0,
-        old: 5,
-        new: 6,
-    };
-    let write = Op::W { cell: 0, value: 6 };
     for (held, found) in [(Some(5), true), (Some(6), false), (None, true)] {
-        assert!(rt; read.finds(held) == found);
-        assert!(rt; swap.finds(held) == found);
-        assert!(rt; write.finds(held));
+        assert!(rt; SWAP.finds(held) == found && WRITE.finds(held));
     }
-    assert!(rt; read.value_after() == 5);
-    assert!(rt; swap.value_after() == 6);
-    assert!(rt; write.value_after() == 6);
-    assert!(rt; swap.cell() == 0);
-}
-
-#[test]
-fn numbers_and_spells_the_refusals(rt: HostRuntime) {
-    for (refusal, number, text) in [
-        (Refusal::BadLine, 1, "bad-line"),
-        (Refusal::ValueOutOfRange, 12, "value-out-of-range"),
-        (Refusal::TooManySessions, 19, "too-many-sessions"),
-    ] {
-        assert!(rt; refusal.number() == number);
-        assert!(rt; refusal.text() == text);
-    }
+    let values = [READ, SWAP, WRITE].map(|op| op.value_after());
+    assert!(rt; values == [0, 6, 7] && READ.cell() == 1);
 }

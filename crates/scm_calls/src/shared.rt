@@ -23,36 +23,13 @@ fn list<B: BookNaming, R: Wait + Abort>(rt: &R, shared: &SharedBook<B>, pass: &m
     assert!(rt; matches!(shared.call(rt, pass, Call::ListTraces), Reply::Traces(_)));
 }
 
-/// Two fronts of a pass that calls nothing itself: after two calls of another one, and after one more.
-fn fronts<B: BookNaming, R: Wait + Abort>(rt: &R, alloc: Global, token: BookToken) -> (u64, u64)
-    requires table { token.table.shared.table_id ≡ B.table }
-    requires made { (token.made.name ≡ B.made) × (token.made.parts ≡ B.seats) }
-    requires totals { (token.totals.taken.name ≡ B.taken) × (token.totals.delivered.name ≡ B.delivered) × (token.totals.taken.parts ≡ B.parts) }
-{
-    let shared = SharedBook::<B>::new(alloc, token);
-    let mut one = entered(rt, &shared);
-    list(rt, &shared, &mut one);
-    list(rt, &shared, &mut one);
-    let mut other = entered(rt, &shared);
-    let first = shared.front(&mut other);
-    list(rt, &shared, &mut one);
-    (first, shared.front(&mut other))
-}
-
-#[test]
-fn front_of_other(rt: HostRuntime) -> Result<(), Fail> {
-    let (first, second) = fronts::<Brand, _>(&rt, rt.alloc(), BookToken::new(rt.alloc())?);
-    assert!(rt; first == 2 && second == 3);
-    Ok(())
-}
-
-/// What two passes find when they meet, before and after a third one calls; what both have seen then; and the audit of all
-/// three.
+/// Two fronts of a pass that calls nothing itself, after two calls of another one and after one more; what the other two find
+/// when they meet, before and after it calls; what both have seen then; and the audit of all three.
 fn meetings<B: BookNaming, R: Wait + Abort>(
     rt: &R,
     alloc: Global,
     token: BookToken,
-) -> ([u64; 4], Audit)
+) -> ([u64; 6], Audit)
     requires table { token.table.shared.table_id ≡ B.table }
     requires made { (token.made.name ≡ B.made) × (token.made.parts ≡ B.seats) }
     requires totals { (token.totals.taken.name ≡ B.taken) × (token.totals.delivered.name ≡ B.delivered) × (token.totals.taken.parts ≡ B.parts) }
@@ -63,12 +40,14 @@ fn meetings<B: BookNaming, R: Wait + Abort>(
     let mut two = entered(rt, &shared);
     list(rt, &shared, &mut zero);
     list(rt, &shared, &mut zero);
+    let front = shared.front(&mut two);
     list(rt, &shared, &mut one);
+    let next = shared.front(&mut two);
     list(rt, &shared, &mut two);
     let first = shared.meet(&mut zero, &mut one);
     list(rt, &shared, &mut two);
     let second = shared.meet(&mut zero, &mut one);
-    let found = [first, second, zero.seen(), one.seen()];
+    let found = [front, next, first, second, zero.seen(), one.seen()];
     let passes = vec![in alloc; zero, one, two].expect(rt, "memory");
     (found, shared.audit(passes, Vec::new(alloc)))
 }
@@ -81,13 +60,18 @@ fn is_whole(audit: &Audit, passes: u16) -> bool {
 #[test]
 fn passes_meet(rt: HostRuntime) -> Result<(), Fail> {
     let (found, audit) = meetings::<Brand, _>(&rt, rt.alloc(), BookToken::new(rt.alloc())?);
-    assert!(rt; found == [4, 5, 5, 5]);
+    assert!(rt; found == [2, 3, 4, 5, 5, 5]);
     assert!(rt; is_whole(&audit, 3));
     Ok(())
 }
 
-/// Whether the audit agrees where a pass is held back that made a call.
-fn held_back<B: BookNaming, R: Wait + Abort>(rt: &R, alloc: Global, token: BookToken) -> bool
+/// The audit where two entered, and the pass that made two of three calls is held back, or both are.
+fn held_back<B: BookNaming, R: Wait + Abort>(
+    rt: &R,
+    alloc: Global,
+    token: BookToken,
+    both: bool,
+) -> Audit
     requires table { token.table.shared.table_id ≡ B.table }
     requires made { (token.made.name ≡ B.made) × (token.made.parts ≡ B.seats) }
     requires totals { (token.totals.taken.name ≡ B.taken) × (token.totals.delivered.name ≡ B.delivered) × (token.totals.taken.parts ≡ B.parts) }
@@ -96,35 +80,14 @@ fn held_back<B: BookNaming, R: Wait + Abort>(rt: &R, alloc: Global, token: BookT
     let mut one = entered(rt, &shared);
     let mut other = entered(rt, &shared);
     list(rt, &shared, &mut one);
+    list(rt, &shared, &mut one);
     list(rt, &shared, &mut other);
-    let passes = vec![in alloc; other].expect(rt, "memory");
-    shared.audit(passes, Vec::new(alloc)).agreed
-}
-
-#[test]
-fn a_missing_pass_shows(rt: HostRuntime) -> Result<(), Fail> {
-    assert!(rt; !held_back::<Brand, _>(&rt, rt.alloc(), BookToken::new(rt.alloc())?));
-    Ok(())
-}
-
-/// The audit with no passes, where two entered and one of them made three calls; and its front then.
-fn none_handed_in<B: BookNaming, R: Wait + Abort>(
-    rt: &R,
-    alloc: Global,
-    token: BookToken,
-) -> (u64, Audit)
-    requires table { token.table.shared.table_id ≡ B.table }
-    requires made { (token.made.name ≡ B.made) × (token.made.parts ≡ B.seats) }
-    requires totals { (token.totals.taken.name ≡ B.taken) × (token.totals.delivered.name ≡ B.delivered) × (token.totals.taken.parts ≡ B.parts) }
-{
-    let shared = SharedBook::<B>::new(alloc, token);
-    let mut one = entered(rt, &shared);
-    let _other = entered(rt, &shared);
-    for _ in 0..3 {
-        list(rt, &shared, &mut one);
+    assert!(rt; shared.front(&mut one) == 3);
+    let mut passes = Vec::new(alloc);
+    if !both {
+        passes.push(other).expect(rt, "memory");
     }
-    let front = shared.front(&mut one);
-    (front, shared.audit(Vec::new(alloc), Vec::new(alloc)))
+    shared.audit(passes, Vec::new(alloc))
 }
 
 /// Whether two passes entered, and the entries of the journal are three, which isn't what was handed in.
@@ -133,10 +96,11 @@ fn lacks_calls(audit: &Audit) -> bool {
 }
 
 #[test]
-fn an_audit_of_no_passes(rt: HostRuntime) -> Result<(), Fail> {
-    let (front, audit) = none_handed_in::<Brand, _>(&rt, rt.alloc(), BookToken::new(rt.alloc())?);
-    assert!(rt; front == 3);
-    assert!(rt; lacks_calls(&audit));
+fn a_missing_pass_shows(rt: HostRuntime) -> Result<(), Fail> {
+    for both in [false, true] {
+        let token = BookToken::new(rt.alloc())?;
+        assert!(rt; lacks_calls(&held_back::<Brand, _>(&rt, rt.alloc(), token, both)));
+    }
     Ok(())
 }
 

@@ -1,11 +1,11 @@
 //! That workers work a shared book off, and that nobody waits for one who is at work.
 ghost use Rattle.std.specs.Prelude.{◌≡◌};
 
+use crate::expand::expanded;
 use crate::shared::entered;
-use crate::shared_words::{ask, cells, claim, report};
-use crate::words::name;
-use scm_book::{Book, Call, Reply};
-use scm_expand::{FreeGate, Gate, Outcome, TaskSource, expand, run_workers};
+use crate::words::{call_of, says};
+use scm_book::Book;
+use scm_expand::{FreeGate, Gate, Outcome, TaskSource, run_workers};
 use scm_results::Tally;
 use scm_shared::{Audit, BookNaming, BookToken, Pass, SharedBook};
 use std::alloc::Global;
@@ -19,45 +19,30 @@ use std::thread::Threads;
 
 const MOST_TURNS: u64 = 1_000_000_000;
 
-/// A call that is answered `Done`.
-fn done<B: BookNaming, R: Wait + Abort>(
-    rt: &R,
-    shared: &SharedBook<B>,
-    pass: &mut Pass<B>,
-    call: Call,
-) {
-    assert!(rt; matches!(shared.call(rt, pass, call), Reply::Done));
-}
-
 /// Opens t with the cells x and y, and claims its two processes.
-fn open_two<B: BookNaming, R: Wait + Abort>(
+const OPEN: &str = "open t 2 100 x y; claim t 0; claim t 1";
+
+/// Each of two processes stores 1 in its own cell, and then loads 0 from the other's.
+const STORE_BUFFERING: &str = "do t 0 sw x 1; do t 0 lw y 0; do t 1 sw y 1; do t 1 lw x 0";
+
+/// Makes the calls of a text, each of which is answered what stands behind its arrow, or `ok`.
+fn play<B: BookNaming, R: Wait + Abort>(
     rt: &R,
     alloc: Global,
     shared: &SharedBook<B>,
     pass: &mut Pass<B>,
+    text: &str,
 ) {
-    let open = Call::OpenTrace {
-        name: name(rt, b"t"),
-        procs: 2,
-        budget: 100,
-        cells: cells(rt, alloc).expect(rt, "memory"),
-    };
-    done(rt, shared, pass, open);
-    for process in 0..2 {
-        done(rt, shared, pass, claim(rt, process));
+    for line in text.split(';') {
+        let (line, wanted) = line.split_once("=>").unwrap_or((line, "ok"));
+        let reply = shared.call(rt, pass, call_of(rt, alloc, line));
+        assert!(rt; says(&reply, wanted.trim()), "{line}");
     }
 }
 
-/// Each of two processes stores 1 in its own cell, and then loads 0 from the other's.
-fn buffer_stores<B: BookNaming, R: Wait + Abort>(
-    rt: &R,
-    shared: &SharedBook<B>,
-    pass: &mut Pass<B>,
-) {
-    done(rt, shared, pass, report(rt, 0, &[b"sw", b"x", b"1"]));
-    done(rt, shared, pass, report(rt, 0, &[b"lw", b"y", b"0"]));
-    done(rt, shared, pass, report(rt, 1, &[b"sw", b"y", b"1"]));
-    done(rt, shared, pass, report(rt, 1, &[b"lw", b"x", b"0"]));
+/// The question whether t is consistent is answered so.
+fn assert_answer(rt: &impl Abort, alloc: Global, book: &mut Book, wanted: &str) {
+    assert!(rt; says(&book.call(0, call_of(rt, alloc, "ask t")), wanted));
 }
 
 /// Takes one task a turn, and drops it, until there is none.
@@ -80,8 +65,8 @@ fn buffered<B: BookNaming, R: Wait + Abort>(
     shared: &SharedBook<B>,
 ) -> Pass<B> {
     let mut pass = entered(rt, shared);
-    open_two(rt, alloc, shared, &mut pass);
-    buffer_stores(rt, shared, &mut pass);
+    play(rt, alloc, shared, &mut pass, OPEN);
+    play(rt, alloc, shared, &mut pass, STORE_BUFFERING);
     pass
 }
 
@@ -113,32 +98,6 @@ fn work_and_drop<B: BookNaming + Send + Sync, R: Threads + Wait + Abort + Sync>(
     tallies
 }
 
-/// Works store buffering off.
-fn work_off<B: BookNaming + Send + Sync, R: Threads + Wait + Abort + Sync>(
-    rt: &R,
-    alloc: Global,
-    token: BookToken,
-) -> Book
-    requires table { token.table.shared.table_id ≡ B.table }
-    requires made { (token.made.name ≡ B.made) × (token.made.parts ≡ B.seats) }
-    requires totals { (token.totals.taken.name ≡ B.taken) × (token.totals.delivered.name ≡ B.delivered) × (token.totals.taken.parts ≡ B.parts) }
-{
-    let shared = SharedBook::<B>::new(alloc, token);
-    let pass = buffered(rt, alloc, &shared);
-    let tallies = work_and_drop(rt, alloc, &shared);
-    let passes = vec![in alloc; pass].expect(rt, "memory");
-    accounted(rt, shared.audit(passes, tallies), 4)
-}
-
-#[test]
-fn worked_off(rt: HostRuntime) -> Result<(), Fail> {
-    let mut book = work_off::<Brand, _>(&rt, rt.alloc(), BookToken::new(rt.alloc())?);
-    assert!(rt; book.results().accepted == 7);
-    assert!(rt; matches!(book.call(0, ask(&rt, None)), Reply::Inconsistent));
-    assert!(rt; book.steps() == 0);
-    Ok(())
-}
-
 /// A pass, after a question has looked at all there was in 91 situations, and then the report of a load that is legal in none.
 fn searched<B: BookNaming, R: Wait + Abort>(
     rt: &R,
@@ -146,44 +105,57 @@ fn searched<B: BookNaming, R: Wait + Abort>(
     shared: &SharedBook<B>,
 ) -> Pass<B> {
     let mut pass = entered(rt, shared);
-    open_two(rt, alloc, shared, &mut pass);
+    play(rt, alloc, shared, &mut pass, OPEN);
     for _ in 0..90 {
-        done(rt, shared, &mut pass, report(rt, 0, &[b"sw", b"x", b"1"]));
+        play(rt, alloc, shared, &mut pass, "do t 0 sw x 1");
     }
-    done(rt, shared, &mut pass, report(rt, 0, &[b"lw", b"x", b"2"]));
-    assert!(rt;
-        matches!(
-            shared.call(rt, &mut pass, ask(rt, None)),
-            Reply::Inconsistent
-        )
+    play(
+        rt,
+        alloc,
+        shared,
+        &mut pass,
+        "do t 0 lw x 2; ask t => inconsistent; do t 1 lw x 3",
     );
-    done(rt, shared, &mut pass, report(rt, 1, &[b"lw", b"x", b"3"]));
     pass
 }
 
-/// Works these situations off, by several takings that bring nothing new.
-fn work_loads_off<B: BookNaming + Send + Sync, R: Threads + Wait + Abort + Sync>(
+/// Works store buffering off, or the situations that a question has looked at, by several takings that bring nothing new.
+fn work_off<B: BookNaming + Send + Sync, R: Threads + Wait + Abort + Sync>(
     rt: &R,
     alloc: Global,
     token: BookToken,
+    is_searched: bool,
 ) -> Book
     requires table { token.table.shared.table_id ≡ B.table }
     requires made { (token.made.name ≡ B.made) × (token.made.parts ≡ B.seats) }
     requires totals { (token.totals.taken.name ≡ B.taken) × (token.totals.delivered.name ≡ B.delivered) × (token.totals.taken.parts ≡ B.parts) }
 {
     let shared = SharedBook::<B>::new(alloc, token);
-    let pass = searched(rt, alloc, &shared);
+    let pass = if is_searched {
+        searched(rt, alloc, &shared)
+    } else {
+        buffered(rt, alloc, &shared)
+    };
     let tallies = work_and_drop(rt, alloc, &shared);
     let passes = vec![in alloc; pass].expect(rt, "memory");
     accounted(rt, shared.audit(passes, tallies), 4)
 }
 
 #[test]
+fn worked_off(rt: HostRuntime) -> Result<(), Fail> {
+    let mut book = work_off::<Brand, _>(&rt, rt.alloc(), BookToken::new(rt.alloc())?, false);
+    assert!(rt; book.results().accepted == 7);
+    assert_answer(&rt, rt.alloc(), &mut book, "inconsistent");
+    assert!(rt; book.steps() == 0);
+    Ok(())
+}
+
+#[test]
 fn loads_are_worked_off(rt: HostRuntime) -> Result<(), Fail> {
-    let mut book = work_loads_off::<Brand, _>(&rt, rt.alloc(), BookToken::new(rt.alloc())?);
+    let mut book = work_off::<Brand, _>(&rt, rt.alloc(), BookToken::new(rt.alloc())?, true);
     assert!(rt; book.results().known >= 91);
     let steps = book.steps();
-    assert!(rt; matches!(book.call(0, ask(&rt, None)), Reply::Inconsistent));
+    assert_answer(&rt, rt.alloc(), &mut book, "inconsistent");
     assert!(rt; book.steps() == steps);
     Ok(())
 }
@@ -213,17 +185,22 @@ fn is_set(flag: &AtomicBool) -> bool {
     false
 }
 
-/// Whether a report and a question are answered while a worker is held.
-fn answers<B: BookNaming, R: Wait + Abort>(
+/// A report and a question are answered while a worker is held.
+fn call_while_held<B: BookNaming, R: Wait + Abort>(
     rt: &R,
+    alloc: Global,
     shared: &SharedBook<B>,
     pass: &mut Pass<B>,
     barrier: &Barrier,
-) -> bool {
-    let came = is_set(&barrier.came);
-    let reported = shared.call(rt, pass, report(rt, 0, &[b"sw", b"x", b"2"]));
-    let answered = shared.call(rt, pass, ask(rt, None));
-    came && matches!(reported, Reply::Done) && matches!(answered, Reply::Inconsistent)
+) {
+    assert!(rt; is_set(&barrier.came));
+    play(
+        rt,
+        alloc,
+        shared,
+        pass,
+        "do t 0 sw x 2; ask t => inconsistent",
+    );
 }
 
 fn call_meanwhile<B: BookNaming + Send + Sync, R: Threads + Wait + Abort + Sync>(
@@ -241,17 +218,15 @@ fn call_meanwhile<B: BookNaming + Send + Sync, R: Threads + Wait + Abort + Sync>
     };
     let shared = SharedBook::<B>::new(alloc, token);
     let mut pass = buffered(rt, alloc, &shared);
-    let (answered, tallies) = thread::join(
+    let (_, tallies) = thread::join(
         rt,
         || {
-            let answered = answers(rt, &shared, &mut pass, &barrier);
+            call_while_held(rt, alloc, &shared, &mut pass, &barrier);
             shared.stop_workers();
             barrier.open.store(true, Ordering::SeqCst);
-            answered
         },
         || run_workers::<B, SharedBook<B>, Barrier, R>(rt, alloc, &shared, &barrier, 2),
     );
-    assert!(rt; answered);
     let passes = vec![in alloc; pass].expect(rt, "memory");
     let tallies = tallies.expect(rt, "threads and memory");
     accounted(rt, shared.audit(passes, tallies), 3)
@@ -300,10 +275,7 @@ fn two_outcomes<B: BookNaming, R: Wait + Abort>(
 ) -> Vec<Outcome> {
     let mut outcomes = Vec::new(alloc);
     for task in shared.take(rt, 2, tally).expect(rt, "memory") {
-        let Ok(outcome) = expand(task) else {
-            panic!(rt; "no memory");
-        };
-        outcomes.push(outcome).expect(rt, "memory");
+        outcomes.push(expanded(rt, task)).expect(rt, "memory");
     }
     assert!(rt; outcomes.len() == 2);
     outcomes
@@ -333,8 +305,7 @@ fn deliver_late<B: BookNaming, R: Wait + Abort>(rt: &R, alloc: Global, token: Bo
     let before = shared.wait(rt, 0);
     shared.deliver(rt, outcomes, &mut tally);
     let after = shared.wait(rt, 0);
-    let name = name(rt, b"t");
-    done(rt, &shared, &mut pass, Call::CloseTrace { name });
+    play(rt, alloc, &shared, &mut pass, "close t");
     let closed = shared.wait(rt, 0);
     shared.deliver(rt, again, &mut tally);
     assert!(rt; tally.delivered() == 4);

@@ -3,9 +3,12 @@ ghost use Rattle.std.specs.Prelude.{◌<◌, ◌≤◌, length};
 ghost use Rattle.scm_sequences.specs.declared.limits.TheConstants.{MOST_PROCESSES};
 ghost use Rattle.scm_sequences.specs.Ops.{cell_of};
 
+use crate::traces::operation;
 use scm_cells::{Cells, Initial, Name, Num, Width};
+use scm_expand::{Task, expand};
 use scm_frontier::Steps;
 use scm_reach::{Reach, Settled};
+use scm_results::Fate;
 use scm_sequences::{Lengths, MOST_PROCESSES, Op, Refusal, Sequences};
 use std::alloc::Global;
 use std::marker::Model;
@@ -69,6 +72,13 @@ impl Asked {
         Ok(Asked { sequences, reach })
     }
 
+    /// The trace of so many processes with the operations of a text, on the cells o, x, y and z.
+    pub(crate) fn of(rt: &impl Abort, alloc: Global, procs: usize, text: &str) -> Asked {
+        let mut asked = Asked::new(rt, alloc, &cells(rt, alloc, 4), procs);
+        asked.report_all(rt, text);
+        asked
+    }
+
     /// The sequences of the trace.
     pub(crate) fn sequences(&self) -> &Sequences {
         &self.sequences
@@ -84,6 +94,14 @@ impl Asked {
         let cells = self.reach.initials().len();
         assert!(rt; op.cell() < cells);
         self.push(p, op).expect(rt, "room for an operation");
+    }
+
+    /// The operations of a text.
+    pub(crate) fn report_all(&mut self, rt: &impl Abort, text: &str) {
+        for word in text.split_whitespace() {
+            let (p, op) = operation(rt, word);
+            self.report(rt, p, op);
+        }
     }
 
     fn push(&mut self, p: usize, op: Op) -> Result<(), Refusal>
@@ -118,11 +136,26 @@ impl Asked {
         (settled, steps.made())
     }
 
+    /// So many tasks.
+    pub(crate) fn take(&mut self, rt: &impl Abort, alloc: Global, n: usize) -> Vec<Task> {
+        let name = Name::read(b"t").expect(rt, "a name");
+        let taken = self.reach.tasks(alloc, name, &self.sequences, n);
+        taken.expect(rt, "memory")
+    }
+
     /// Has the words packed for all of the trace, which a taking of no task does.
     pub(crate) fn pack(&mut self, rt: &impl Abort, alloc: Global) {
-        let name = Name::read(b"t").expect(rt, "a name");
-        let taken = self.reach.tasks(alloc, name, &self.sequences, 0);
-        assert!(rt; taken.expect(rt, "memory").is_empty());
+        let taken = self.take(rt, alloc, 0);
+        assert!(rt; taken.is_empty());
+    }
+
+    /// What becomes of the outcome of a copy of the task, under a limit.
+    pub(crate) fn accept(&mut self, rt: &impl Abort, task: &Task, limit: usize) -> Fate {
+        let Ok(outcome) = expand(task.copy().expect(rt, "memory")) else {
+            panic!(rt; "no memory");
+        };
+        assert!(rt; self.reach.held() <= limit);
+        self.reach.accept(&self.sequences, outcome, limit)
     }
 
     /// Goes back to these lengths.

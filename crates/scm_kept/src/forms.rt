@@ -3,14 +3,12 @@
 use crate::asked::{Asked, cells};
 use crate::plain_list::{PlainList, agree};
 use crate::traces::{read, swap, write};
-use scm_cells::Cells;
 use scm_frontier::{Layout, U256, U512, Word};
 use scm_reach::Settled;
 use scm_schedules::refutation;
-use scm_sequences::{Lengths, MOST_CELLS, MOST_PROCESSES, Op, Sequences};
+use scm_sequences::{Lengths, MOST_CELLS, MOST_PROCESSES, Op};
 use std::alloc::Global;
 use std::process::Abort;
-use std::test::Fail;
 
 /// The narrowest form that has room for a trace.
 #[derive(Clone, Copy, PartialEq, Eq, Debug)]
@@ -78,18 +76,6 @@ pub(crate) fn is_right_at_the_end(rt: &impl Abort, alloc: Global, asked: &mut As
     is_right(rt, alloc, asked, &lengths)
 }
 
-/// Whether that is so of the trace cut to these lengths of the first two processes.
-fn is_right_up_to(rt: &impl Abort, alloc: Global, asked: &mut Asked, first: [u32; 2]) -> bool {
-    let lengths = lengths_of(rt, alloc, asked.sequences().procs(), first);
-    is_right(rt, alloc, asked, &lengths)
-}
-
-/// Goes back to these lengths of the first two processes.
-fn go_back(rt: &impl Abort, alloc: Global, asked: &mut Asked, first: [u32; 2]) {
-    let lengths = lengths_of(rt, alloc, asked.sequences().procs(), first);
-    asked.go_back(rt, &lengths);
-}
-
 /// All processes but the first two read what nobody writes, and then a value of their own of one cell after the other, up to
 /// so many operations: no situation more, but a longer word.
 fn add_ballast(rt: &impl Abort, asked: &mut Asked, times: u8) {
@@ -139,117 +125,95 @@ const LARGE: Growth = Growth {
     to: [(16, Form::Longest), (64, Form::Wide)],
 };
 
-/// Two traces with the same operations of the first two processes: one whose form grows, and one that was wide from the
-/// start.
+/// A trace whose form grows.
 #[derive(Drop)]
-struct Twins {
-    growing: Asked,
-    wide: Asked,
+struct Growing {
+    asked: Asked,
+    alloc: Global,
 }
 
-impl Twins {
-    fn new(rt: &impl Abort, alloc: Global, growth: Growth) -> Twins {
+impl Growing {
+    fn new(rt: &impl Abort, alloc: Global, growth: Growth) -> Growing {
         assert!(rt; 2 <= growth.procs && growth.procs <= MOST_PROCESSES);
-        let growing = Asked::new(rt, alloc, &cells(rt, alloc, growth.cells), growth.procs);
-        assert!(rt; narrowest(rt, alloc, &growing) == growth.from);
-        let mut wide = Asked::new(rt, alloc, &cells(rt, alloc, 64), MOST_PROCESSES);
-        add_ballast(rt, &mut wide, 64);
-        assert!(rt; narrowest(rt, alloc, &wide) == Form::Wide);
-        wide.pack(rt, alloc);
-        Twins { growing, wide }
+        let asked = Asked::new(rt, alloc, &cells(rt, alloc, growth.cells), growth.procs);
+        assert!(rt; narrowest(rt, alloc, &asked) == growth.from);
+        Growing { asked, alloc }
     }
 
-    fn report(&mut self, rt: &impl Abort, p: usize, op: Op) {
-        self.growing.report(rt, p, op);
-        self.wide.report(rt, p, op);
+    fn report(&mut self, rt: &impl Abort, text: &str) {
+        self.asked.report_all(rt, text);
     }
 
-    /// What a question says of both, which is what the plain list says.
-    fn ask(&mut self, rt: &impl Abort, alloc: Global, first: [u32; 2]) {
-        assert!(rt; is_right_up_to(rt, alloc, &mut self.growing, first));
-        assert!(rt; is_right_up_to(rt, alloc, &mut self.wide, first));
+    /// A question about these lengths of the first two processes says what the plain list says.
+    fn ask(&mut self, rt: &impl Abort, first: [u32; 2]) {
+        let lengths = lengths_of(rt, self.alloc, self.asked.sequences().procs(), first);
+        assert!(rt; is_right(rt, self.alloc, &mut self.asked, &lengths));
     }
 
-    fn go_back(&mut self, rt: &impl Abort, alloc: Global, first: [u32; 2]) {
-        go_back(rt, alloc, &mut self.growing, first);
-        go_back(rt, alloc, &mut self.wide, first);
+    fn go_back(&mut self, rt: &impl Abort, first: [u32; 2]) {
+        let lengths = lengths_of(rt, self.alloc, self.asked.sequences().procs(), first);
+        self.asked.go_back(rt, &lengths);
     }
 
     /// Lets the form grow to this one, by values that no situation holds: a search alone would not need it.
-    fn grow(&mut self, rt: &impl Abort, alloc: Global, (times, to): (u8, Form)) {
-        add_ballast(rt, &mut self.growing, times);
-        assert!(rt; narrowest(rt, alloc, &self.growing) == to);
-        self.growing.pack(rt, alloc);
+    fn grow(&mut self, rt: &impl Abort, (times, to): (u8, Form)) {
+        add_ballast(rt, &mut self.asked, times);
+        assert!(rt; narrowest(rt, self.alloc, &self.asked) == to);
+        self.asked.pack(rt, self.alloc);
     }
 }
 
-/// The first process writes two cells, the second reads them; the cell of number 0 is open at first.
-fn begin(rt: &impl Abort, twins: &mut Twins) {
-    twins.report(rt, 0, read(0, u64::MAX));
-    twins.report(rt, 0, write(1, 5));
-    twins.report(rt, 1, swap(1, 0, 6));
-    twins.report(rt, 1, write(0, u64::MAX));
-}
+/// The first process writes two cells, the second reads them.
+const BEGIN: &str = "0Ro-1 0Wx5 1Ux0>6 1Wo-1";
 
 /// A store that was seen and one that never is.
-fn go_on(rt: &impl Abort, twins: &mut Twins) {
-    twins.report(rt, 0, write(2, u64::MAX));
-    twins.report(rt, 1, read(2, u64::MAX));
-    twins.report(rt, 1, read(1, 5));
-    twins.report(rt, 0, read(1, 77));
-}
+const GO_ON: &str = "0Wy-1 1Ry-1 1Rx5 0Rx77";
 
 /// Answers stay as the form grows.
 fn grow(rt: &impl Abort, alloc: Global, growth: Growth) {
-    let mut twins = Twins::new(rt, alloc, growth);
-    begin(rt, &mut twins);
-    twins.ask(rt, alloc, [2, 2]);
-    twins.grow(rt, alloc, growth.to[0]);
-    twins.ask(rt, alloc, [2, 2]);
-    go_on(rt, &mut twins);
-    twins.ask(rt, alloc, [3, 4]);
-    twins.grow(rt, alloc, growth.to[1]);
-    twins.ask(rt, alloc, [2, 2]);
-    twins.ask(rt, alloc, [4, 4]);
+    let mut trace = Growing::new(rt, alloc, growth);
+    trace.report(rt, BEGIN);
+    trace.ask(rt, [2, 2]);
+    trace.grow(rt, growth.to[0]);
+    trace.ask(rt, [2, 2]);
+    trace.report(rt, GO_ON);
+    trace.ask(rt, [3, 4]);
+    trace.grow(rt, growth.to[1]);
+    trace.ask(rt, [2, 2]);
+    trace.ask(rt, [4, 4]);
 }
 
 #[test]
 fn answers_stay_as_the_form_grows(rt: HostRuntime) {
-    grow(&rt, rt.alloc(), SMALL);
-}
-
-#[test]
-fn answers_stay_up_to_the_form_in_full(rt: HostRuntime) {
-    grow(&rt, rt.alloc(), LARGE);
+    for growth in [SMALL, LARGE] {
+        grow(&rt, rt.alloc(), growth);
+    }
 }
 
 /// And on the way back.
 fn grow_and_go_back(rt: &impl Abort, alloc: Global, growth: Growth) {
-    let mut twins = Twins::new(rt, alloc, growth);
-    begin(rt, &mut twins);
-    twins.ask(rt, alloc, [2, 1]);
-    twins.grow(rt, alloc, growth.to[0]);
-    go_on(rt, &mut twins);
-    twins.ask(rt, alloc, [4, 4]);
-    twins.go_back(rt, alloc, [2, 1]);
-    twins.ask(rt, alloc, [2, 1]);
-    twins.grow(rt, alloc, growth.to[1]);
-    go_on(rt, &mut twins);
-    twins.ask(rt, alloc, [4, 3]);
-    twins.go_back(rt, alloc, [1, 0]);
-    twins.ask(rt, alloc, [1, 0]);
-    go_on(rt, &mut twins);
-    twins.ask(rt, alloc, [3, 2]);
+    let mut trace = Growing::new(rt, alloc, growth);
+    trace.report(rt, BEGIN);
+    trace.ask(rt, [2, 1]);
+    trace.grow(rt, growth.to[0]);
+    trace.report(rt, GO_ON);
+    trace.ask(rt, [4, 4]);
+    trace.go_back(rt, [2, 1]);
+    trace.ask(rt, [2, 1]);
+    trace.grow(rt, growth.to[1]);
+    trace.report(rt, GO_ON);
+    trace.ask(rt, [4, 3]);
+    trace.go_back(rt, [1, 0]);
+    trace.ask(rt, [1, 0]);
+    trace.report(rt, GO_ON);
+    trace.ask(rt, [3, 2]);
 }
 
 #[test]
 fn answers_stay_on_the_way_back(rt: HostRuntime) {
-    grow_and_go_back(&rt, rt.alloc(), SMALL);
-}
-
-#[test]
-fn answers_stay_on_the_way_back_from_the_form_in_full(rt: HostRuntime) {
-    grow_and_go_back(&rt, rt.alloc(), LARGE);
+    for growth in [SMALL, LARGE] {
+        grow_and_go_back(&rt, rt.alloc(), growth);
+    }
 }
 
 /// The last process reads on and on what nobody writes, and then ever more values. Where its count or a cell's numbers outgrow
@@ -260,10 +224,7 @@ fn read_on(rt: &impl Abort, alloc: Global, is_packed: bool) {
     let mut asked = Asked::new(rt, alloc, &cells(rt, alloc, 24), 16);
     asked.report(rt, 15, read(2, 9));
     assert!(rt; is_right_at_the_end(rt, alloc, &mut asked));
-    for op in [write(1, 5), read(0, 7), write(2, 6)] {
-        asked.report(rt, 0, op);
-        asked.report(rt, 1, swap(1, 5, 6));
-    }
+    asked.report_all(rt, "0Wx5 1Ux5>6 0Ro7 1Ux5>6 0Wy6 1Ux5>6");
     for i in 0..20 {
         asked.report(rt, 15, if i < 10 { read(2, 9) } else { read(23, i) });
         if is_packed {
@@ -276,12 +237,9 @@ fn read_on(rt: &impl Abort, alloc: Global, is_packed: bool) {
 
 #[test]
 fn answers_stay_as_fields_grow(rt: HostRuntime) {
-    read_on(&rt, rt.alloc(), true);
-}
-
-#[test]
-fn answers_stay_where_words_have_no_room_for_what_cannot_begin(rt: HostRuntime) {
-    read_on(&rt, rt.alloc(), false);
+    for is_packed in [true, false] {
+        read_on(&rt, rt.alloc(), is_packed);
+    }
 }
 
 /// How a trace goes on: one process can't begin, and the last one stores so many values in turn, with a question after so many
@@ -424,40 +382,6 @@ fn words_are_full_to_the_last_bit(rt: HostRuntime) {
         assert!(rt; is_right_at_the_end(&rt, rt.alloc(), &mut asked));
         let lengths = lengths_of(&rt, rt.alloc(), MOST_PROCESSES, [1, u32::from(more)]);
         assert!(rt; is_right(&rt, rt.alloc(), &mut asked, &lengths));
-    }
-}
-
-/// A trace of two processes and three cells, the first of which is open at first.
-fn small(rt: &impl Abort, alloc: Global, operations: &[(usize, Op)]) -> Asked {
-    let mut asked = Asked::new(rt, alloc, &cells(rt, alloc, 3), 2);
-    for (p, op) in operations {
-        asked.report(rt, *p, *op);
-    }
-    asked
-}
-
-/// Reads of what nobody writes, beside values that are written; the last of these traces is consistent.
-#[test]
-fn a_value_that_is_only_read_is_no_other(rt: HostRuntime) {
-    let traces: [&[(usize, Op)]; 5] = [
-        &[(0, read(1, 7))],
-        &[(0, write(1, 1)), (1, read(1, 7)), (1, write(1, 7))],
-        &[(0, read(0, 3)), (1, read(0, 4))],
-        &[
-            (0, swap(1, 0, u64::MAX)),
-            (1, swap(1, u64::MAX, 0)),
-            (0, swap(1, 1, 2)),
-        ],
-        &[
-            (0, read(0, 3)),
-            (1, read(0, 3)),
-            (1, swap(0, 3, u64::MAX)),
-            (0, read(0, u64::MAX)),
-        ],
-    ];
-    for operations in traces {
-        let mut asked = small(&rt, rt.alloc(), operations);
-        assert!(rt; is_right_at_the_end(&rt, rt.alloc(), &mut asked));
     }
 }
 

@@ -7,15 +7,13 @@ mod asked;
 #[cfg(test)]
 mod contents;
 #[cfg(test)]
-mod cycles;
-#[cfg(test)]
 mod forms;
 #[cfg(test)]
 mod frontier;
 #[cfg(test)]
-mod litmus_forms;
+mod judged;
 #[cfg(test)]
-mod litmus_rows;
+mod litmus;
 #[cfg(test)]
 mod marks_again;
 #[cfg(test)]
@@ -31,9 +29,7 @@ mod proposals;
 #[cfg(test)]
 mod reach;
 #[cfg(test)]
-mod refutations;
-#[cfg(test)]
-mod schedules;
+mod situations;
 #[cfg(test)]
 mod sleeping;
 #[cfg(test)]

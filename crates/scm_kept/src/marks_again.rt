@@ -2,118 +2,100 @@
 
 use crate::asked::{Asked, cells};
 use crate::forms::{Numbers, is_right, is_right_at_the_end};
-use crate::traces::{read, write};
 use scm_reach::Settled;
-use scm_sequences::{Lengths, Op};
+use scm_sequences::Lengths;
 use std::alloc::Global;
 use std::process::Abort;
 
 /// More situations than these traces have, but for the generated ones.
 const MOST: usize = 100;
 
-fn report_all(rt: &impl Abort, asked: &mut Asked, operations: &[(usize, Op)]) {
-    for (p, op) in operations {
-        asked.report(rt, *p, *op);
-    }
-}
-
 /// Each process writes one cell and then reads that the other still holds 0, which can't be; then the first writes again.
-fn store_buffering(rt: &impl Abort, alloc: Global) -> Asked {
-    let mut asked = Asked::new(rt, alloc, &cells(rt, alloc, 3), 2);
-    report_all(
-        rt,
-        &mut asked,
-        &[
-            (0, write(1, 1)),
-            (0, read(2, 0)),
-            (1, write(2, 1)),
-            (1, read(1, 0)),
-            (0, write(1, 2)),
-        ],
-    );
-    asked
-}
+const STORE_BUFFERING: &str = "0Wx1 0Ry0 1Wy1 1Rx0 0Wx2";
 
-fn is_closed_now(rt: &impl Abort, alloc: Global, asked: &mut Asked) -> bool {
+fn assert_closed_now(rt: &impl Abort, alloc: Global, asked: &mut Asked) {
     let lengths = asked.sequences().lengths();
-    is_right(rt, alloc, asked, &lengths) && asked.ask(rt, &lengths) == Settled::Closed
+    assert!(rt; is_right(rt, alloc, asked, &lengths));
+    assert!(rt; asked.ask(rt, &lengths) == Settled::Closed);
 }
 
-/// Whether the question about these first operations is right, and comes to this again in no step.
-fn comes_to(
+/// The question about these first operations is right, and comes to this again in no step.
+fn assert_again(
     rt: &impl Abort,
     alloc: Global,
     asked: &mut Asked,
-    first: &[u32; 2],
+    lengths: &Lengths,
     wanted: Settled,
-) -> bool {
-    let lengths = Lengths::new(alloc, first);
-    is_right(rt, alloc, asked, &lengths) && asked.ask_under(rt, &lengths, MOST) == (wanted, 0)
+) {
+    assert!(rt; is_right(rt, alloc, asked, lengths));
+    assert!(rt; asked.ask_under(rt, lengths, MOST) == (wanted, 0));
 }
 
-/// Whether these first operations have a schedule, as the question says twice.
-fn is_whole(rt: &impl Abort, alloc: Global, asked: &mut Asked, first: &[u32; 2]) -> bool {
-    let lengths = Lengths::new(alloc, first);
+/// Each process has two first operations without a schedule, as the question says in no step.
+fn assert_refused(rt: &impl Abort, alloc: Global, asked: &mut Asked) {
+    let lengths = Lengths::new(alloc, &[2, 2]);
+    assert_again(rt, alloc, asked, &lengths, Settled::Closed);
+}
+
+/// These first operations have a schedule, as the question says twice.
+fn assert_whole(rt: &impl Abort, alloc: Global, asked: &mut Asked, first: [u32; 2]) {
+    let lengths = Lengths::new(alloc, &first);
     let Settled::Whole(id) = asked.ask(rt, &lengths) else {
-        return false;
+        panic!(rt; "no schedule");
     };
-    comes_to(rt, alloc, asked, first, Settled::Whole(id))
+    assert_again(rt, alloc, asked, &lengths, Settled::Whole(id));
+}
+
+/// Store buffering, which is refused, at its mark too.
+fn refused(rt: &impl Abort, alloc: Global) -> Asked {
+    let mut asked = Asked::of(rt, alloc, 2, STORE_BUFFERING);
+    assert_closed_now(rt, alloc, &mut asked);
+    assert_refused(rt, alloc, &mut asked);
+    asked
 }
 
 #[test]
 fn a_mark_is_refused_again_in_no_step(rt: HostRuntime) {
-    let mut asked = store_buffering(&rt, rt.alloc());
-    assert!(rt; is_closed_now(&rt, rt.alloc(), &mut asked));
-    assert!(rt; comes_to(&rt, rt.alloc(), &mut asked, &[2, 2], Settled::Closed));
-    report_all(&rt, &mut asked, &[(1, write(2, 2)), (0, read(2, 2))]);
-    assert!(rt; comes_to(&rt, rt.alloc(), &mut asked, &[2, 2], Settled::Closed));
-    assert!(rt; is_closed_now(&rt, rt.alloc(), &mut asked));
-    assert!(rt; comes_to(&rt, rt.alloc(), &mut asked, &[2, 2], Settled::Closed));
+    let mut asked = refused(&rt, rt.alloc());
+    asked.report_all(&rt, "1Wy2 0Ry2");
+    assert_refused(&rt, rt.alloc(), &mut asked);
+    assert_closed_now(&rt, rt.alloc(), &mut asked);
+    assert_refused(&rt, rt.alloc(), &mut asked);
 }
 
 #[test]
 fn a_mark_with_a_schedule_is_no_other_one(rt: HostRuntime) {
-    let mut asked = store_buffering(&rt, rt.alloc());
-    assert!(rt; is_closed_now(&rt, rt.alloc(), &mut asked));
-    assert!(rt; comes_to(&rt, rt.alloc(), &mut asked, &[2, 2], Settled::Closed));
-    assert!(rt; is_whole(&rt, rt.alloc(), &mut asked, &[1, 2]));
-    assert!(rt; is_whole(&rt, rt.alloc(), &mut asked, &[1, 1]));
-    assert!(rt; comes_to(&rt, rt.alloc(), &mut asked, &[2, 2], Settled::Closed));
-    assert!(rt; is_whole(&rt, rt.alloc(), &mut asked, &[1, 2]));
+    let mut asked = refused(&rt, rt.alloc());
+    assert_whole(&rt, rt.alloc(), &mut asked, [1, 2]);
+    assert_whole(&rt, rt.alloc(), &mut asked, [1, 1]);
+    assert_refused(&rt, rt.alloc(), &mut asked);
+    assert_whole(&rt, rt.alloc(), &mut asked, [1, 2]);
+}
+
+fn go_back(rt: &impl Abort, alloc: Global, asked: &mut Asked, first: [u32; 2], text: &str) {
+    asked.go_back(rt, &Lengths::new(alloc, &first));
+    asked.report_all(rt, text);
 }
 
 /// The first process reads after a return what the other wrote.
 #[test]
 fn a_mark_is_looked_at_anew_after_a_return(rt: HostRuntime) {
-    let mut asked = store_buffering(&rt, rt.alloc());
-    assert!(rt; is_closed_now(&rt, rt.alloc(), &mut asked));
-    assert!(rt; comes_to(&rt, rt.alloc(), &mut asked, &[2, 2], Settled::Closed));
-    asked.go_back(&rt, &Lengths::new(rt.alloc(), &[1, 2]));
-    report_all(&rt, &mut asked, &[(0, read(2, 1)), (0, read(2, 9))]);
-    assert!(rt; is_closed_now(&rt, rt.alloc(), &mut asked));
-    assert!(rt; is_whole(&rt, rt.alloc(), &mut asked, &[2, 2]));
-    asked.go_back(&rt, &Lengths::new(rt.alloc(), &[1, 1]));
-    report_all(
-        &rt,
-        &mut asked,
-        &[(0, read(2, 0)), (1, read(1, 0)), (0, read(2, 9))],
-    );
-    assert!(rt; comes_to(&rt, rt.alloc(), &mut asked, &[2, 2], Settled::Closed));
+    let mut asked = refused(&rt, rt.alloc());
+    go_back(&rt, rt.alloc(), &mut asked, [1, 2], "0Ry1 0Ry9");
+    assert_closed_now(&rt, rt.alloc(), &mut asked);
+    assert_whole(&rt, rt.alloc(), &mut asked, [2, 2]);
+    go_back(&rt, rt.alloc(), &mut asked, [1, 1], "0Ry0 1Rx0 0Ry9");
+    assert_refused(&rt, rt.alloc(), &mut asked);
 }
 
-/// At most three of the first operations of process `p`.
-fn count_of(rt: &impl Abort, asked: &Asked, numbers: &mut Numbers, p: usize) -> u32 {
-    let lengths = asked.sequences().lengths();
-    assert!(rt; p < lengths.procs());
-    lengths.get(p).min(u32::from(numbers.below(4)))
-}
-
+/// At most three of the first operations of each process.
 fn mark_of(rt: &impl Abort, alloc: Global, asked: &Asked, numbers: &mut Numbers) -> Lengths {
-    let counts = [
-        count_of(rt, asked, numbers, 0),
-        count_of(rt, asked, numbers, 1),
-        count_of(rt, asked, numbers, 2),
-    ];
+    let lengths = asked.sequences().lengths();
+    assert!(rt; lengths.procs() == 3);
+    let mut counts = [0; 3];
+    for p in 0..3 {
+        counts[p] = lengths.get(p).min(u32::from(numbers.below(4)));
+    }
     Lengths::new(alloc, &counts)
 }
 

@@ -107,38 +107,29 @@ fn is_walked<W: Word>(rt: &impl Abort, layout: &Layout, start: W, sequences: &Se
 
 const ZEROS: [Option<u64>; 4] = [Some(0), Some(0), Some(0), Some(0)];
 
-// 7 bits for a count, and 2 for a cell.
-#[test]
-fn eight_processes_of_100_operations_fit_64_bits(rt: HostRuntime) {
-    let sequences = writers(&rt, rt.alloc(), 8, 100);
-    let full = layout_for::<u64>(&rt, rt.alloc(), &ZEROS, &sequences);
-    let start: u64 = start(&rt, rt.alloc(), &full, &ZEROS);
-    assert!(rt; is_walked(&rt, &full, start, &sequences));
-}
-
-/// Whether the operations of 32 processes, so many of each, can be made on words of the layout for their trace.
-fn are_walked<W: Word>(rt: &impl Abort, alloc: Global, times: u8) -> bool {
-    let sequences = writers(rt, alloc, MOST_PROCESSES, times);
+/// The operations of so many processes, so many of each, can be made on words of the layout for their trace.
+fn assert_walked<W: Word>(rt: &impl Abort, alloc: Global, procs: usize, times: u8) {
+    let sequences = writers(rt, alloc, procs, times);
     let full = layout_for::<W>(rt, alloc, &ZEROS, &sequences);
     let start: W = start(rt, alloc, &full, &ZEROS);
-    is_walked(rt, &full, start, &sequences)
+    assert!(rt; is_walked(rt, &full, start, &sequences));
 }
 
-// The fields have 7 bits and 14 bits, and some lie across the halves.
+/// A count has 7 bits and a cell 2, of which 64 bits have just room; of 32 processes the fields have 7 bits and 14 bits, and some
+/// lie across the halves.
 #[test]
 fn steps_go_on_across_the_halves(rt: HostRuntime) {
-    assert!(rt; are_walked::<U256>(&rt, rt.alloc(), 100));
-    assert!(rt; are_walked::<U512>(&rt, rt.alloc(), 130));
+    assert_walked::<u64>(&rt, rt.alloc(), 8, 100);
+    assert_walked::<U256>(&rt, rt.alloc(), MOST_PROCESSES, 100);
+    assert_walked::<U512>(&rt, rt.alloc(), MOST_PROCESSES, 130);
 }
 
 #[test]
-fn one_value_more_does_not(rt: HostRuntime) {
+fn one_value_more_wants_a_longer_word(rt: HostRuntime) {
     let mut sequences = writers(&rt, rt.alloc(), 8, 100);
     push(&rt, &mut sequences, 0, Op::R { cell: 0, value: 4 });
     assert!(rt; layout::<u64>(&rt, rt.alloc(), &ZEROS, &sequences).is_none());
-    assert!(rt; sequences.names_cells_below(4));
-    let long = Layout::of::<u128>(rt.alloc(), &ZEROS, &sequences).expect(&rt, "memory");
-    assert!(rt; long.is_some());
+    assert!(rt; layout::<u128>(&rt, rt.alloc(), &ZEROS, &sequences).is_some());
 }
 
 /// One process reads a value that nobody writes of a cell that holds 0, another the greatest value of an open cell.
@@ -152,29 +143,24 @@ const READS: [Op; 2] = [
 
 const ONE_OPEN: [Option<u64>; 2] = [Some(0), None];
 
-fn readers(rt: &impl Abort, alloc: Global) -> Sequences {
+fn layout_of_reads(rt: &impl Abort, alloc: Global) -> Layout
+    ensures { result.bits ≡ 64 }
+{
     let mut sequences = Sequences::new(alloc, 2).expect(rt, "memory");
     push(rt, &mut sequences, 0, READS[0]);
     push(rt, &mut sequences, 1, READS[1]);
-    sequences
+    layout_for::<u64>(rt, alloc, &ONE_OPEN, &sequences)
 }
 
 #[test]
 fn values_that_are_only_read_have_numbers(rt: HostRuntime) {
-    let small = layout_for::<u64>(&rt, rt.alloc(), &ONE_OPEN, &readers(&rt, rt.alloc()));
+    let small = layout_of_reads(&rt, rt.alloc());
     let word: u64 = start(&rt, rt.alloc(), &small, &ONE_OPEN);
     assert!(rt; matches!(after(&rt, &small, word, 0, READS[0]), Ok(None)));
+    assert!(rt; after(&rt, &small, word, 0, Op::W { cell: 0, value: 7 }).is_err());
     let next = after_legal(&rt, &small, word, 1, READS[1]);
     assert!(rt; small.cells() == 2);
     assert!(rt; [small.held(next, 0), small.held(next, 1)] == [Some(0), Some(u64::MAX)]);
-}
-
-#[test]
-fn a_value_without_a_number_has_no_room(rt: HostRuntime) {
-    let small = layout_for::<u64>(&rt, rt.alloc(), &ONE_OPEN, &readers(&rt, rt.alloc()));
-    let word: u64 = start(&rt, rt.alloc(), &small, &ONE_OPEN);
-    let write = Op::W { cell: 0, value: 7 };
-    assert!(rt; after(&rt, &small, word, 0, write).is_err());
 }
 
 #[test]
@@ -187,11 +173,6 @@ fn a_full_count_has_no_room_for_one_more(rt: HostRuntime) {
     }
     assert!(rt; after(&rt, &full, word, 3, write).is_err());
     assert!(rt; full.procs() == 8);
-    assert!(rt;
-        [
-            full.count(word, 2),
-            full.count(word, 3),
-            full.count(word, 4)
-        ] == [0, 127, 0]
-    );
+    let others = [full.count(word, 2), full.count(word, 4)];
+    assert!(rt; full.count(word, 3) == 127 && others == [0, 0]);
 }

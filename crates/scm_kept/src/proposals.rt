@@ -1,27 +1,41 @@
 //! That a schedule is proposed where there is one.
 use crate::forms::Numbers;
-use crate::traces::{read, sequences_of, swap, write};
+use crate::judged::is_legal_schedule;
+use crate::litmus::ROWS;
+use crate::traces::{INITIALS, parts_of, read, sequences_in, swap, write};
 use scm_proposals::propose;
-use scm_schedules::is_legal;
 use scm_sequences::Sequences;
 use std::alloc::Global;
 use std::process::Abort;
 
-const ZEROS: [Option<u64>; 2] = [Some(0), Some(0)];
-
-#[test]
-fn message_passing(rt: HostRuntime) {
-    let alloc = rt.alloc();
-    let operations = [
-        (0, write(0, 1)),
-        (0, write(1, 1)),
-        (1, read(1, 1)),
-        (1, read(0, 1)),
-    ];
-    let sequences = sequences_of(&rt, alloc, 2, &operations);
+/// Whether a schedule is proposed, which is judged.
+fn is_decided(
+    rt: &impl Abort,
+    alloc: Global,
+    initials: &[Option<u64>],
+    sequences: &Sequences,
+    room: usize,
+) -> bool {
     let lengths = sequences.lengths();
-    let schedule = propose(alloc, &ZEROS, &sequences, &lengths, &[], 1_000, 1_000);
-    assert!(rt; schedule.expect(&rt, "a schedule").as_slice() == [0, 0, 1, 1].as_slice());
+    match propose(alloc, initials, sequences, &lengths, &[], room, room) {
+        Some(schedule) => is_legal_schedule(rt, initials, sequences, &lengths, &schedule),
+        None => false,
+    }
+}
+
+/// Of the consistent rows all but a few are decided: the one without an operation, and such as swap what an open cell held.
+#[test]
+fn consistent_rows_are_decided(rt: HostRuntime) {
+    let mut missed = 0u32;
+    for row in ROWS.trim().lines() {
+        let (_, trace, wanted) = parts_of(&rt, row);
+        let sequences = sequences_in(&rt, rt.alloc(), 4, trace);
+        let is_decided = is_decided(&rt, rt.alloc(), &INITIALS, &sequences, 1_000);
+        let is_consistent = wanted.contains(", consistent");
+        assert!(rt; is_consistent || !is_decided, "{row}");
+        missed = missed.saturating_add(u32::from(is_consistent && !is_decided));
+    }
+    assert!(rt; missed == 3, "{missed}");
 }
 
 /// What a memory did, whose two cells three processes accessed as it came, so many times, with three values.
@@ -59,10 +73,7 @@ fn a_beam_goes_back(rt: HostRuntime) {
         (1_707, 100, 5_200),
     ] {
         let sequences = of_few_values(&rt, rt.alloc(), seed, accesses);
-        let lengths = sequences.lengths();
-        let schedule = propose(rt.alloc(), &ZEROS, &sequences, &lengths, &[], room, room);
-        let schedule = schedule.expect(&rt, "a schedule");
-        assert!(rt; sequences.names_cells_below(2) && lengths.within(&sequences.lengths()));
-        assert!(rt; is_legal(&ZEROS, &sequences, &lengths, &schedule));
+        let zeros = [Some(0), Some(0)];
+        assert!(rt; is_decided(&rt, rt.alloc(), &zeros, &sequences, room));
     }
 }

@@ -11,8 +11,8 @@ use clap::error::ErrorKind;
 use clap::{Arg, ArgAction, Command, Error};
 use std::alloc::Global;
 
-/// What `--version` tells beside the program's name.
-const VERSION: &str = "0.1.0";
+/// What `--version` tells beside the program's name. A program that is compiled without its proofs says so in their place.
+const VERSION: &str = "0.2.0, proved";
 
 /// What the program is for.
 const ABOUT: &str =

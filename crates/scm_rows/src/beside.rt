@@ -7,21 +7,22 @@ use scm_sessions::{Findings, Port, RunFault, run_with_workers};
 use scm_shared::{Audit, BookToken};
 use std::alloc::Global;
 use std::marker::Brand;
+use std::process::Abort;
 use std::sync::Wait;
 use std::test::Fail;
 use std::thread::Threads;
 
 /// How a script ran: whether its audit agreed, or its fault; what was written, and whether a reply came late.
 #[derive(Drop)]
-pub(crate) struct Ran {
-    pub(crate) ended: Result<bool, RunFault>,
-    pub(crate) written: Vec<u8>,
+struct Ran {
+    ended: Result<bool, RunFault>,
+    written: Vec<u8>,
     is_late: bool,
 }
 
 /// How many bytes a reader gives and a writer takes at once, and after how many they fail.
 #[derive(Clone, Copy)]
-pub(crate) struct Limits {
+struct Limits {
     step: usize,
     read: usize,
     write: usize,
@@ -29,7 +30,7 @@ pub(crate) struct Limits {
 
 impl Limits {
     /// No end that fails.
-    pub(crate) fn none(step: usize) -> Limits {
+    fn none(step: usize) -> Limits {
         Limits {
             step,
             read: usize::MAX,
@@ -43,7 +44,7 @@ fn is_agreed(audit: &Audit) -> bool {
 }
 
 /// Runs a script beside so many workers.
-pub(crate) fn run_of<T: Threads + Wait + Sync>(
+fn run_of<T: Threads + Wait + Sync>(
     rt: &T,
     alloc: Global,
     script: &[u8],
@@ -81,18 +82,26 @@ pub(crate) fn run_of<T: Threads + Wait + Sync>(
     })
 }
 
+/// Stops the test where a run didn't end so, or another text was written, or a reply came late.
+fn expect_ran(rt: &impl Abort, ran: &Ran, ended: Result<bool, RunFault>, written: &[u8]) {
+    assert!(rt;
+        ran.ended == ended && !ran.is_late,
+        "written are {} bytes",
+        ran.written.len()
+    );
+    assert!(rt;
+        ran.written.as_slice() == written,
+        "wanted are {} bytes",
+        written.len()
+    );
+}
+
 #[test]
 fn replies_go_out_beside_workers(rt: HostRuntime) -> Result<(), Fail> {
     for workers in 0..5 {
         for (script, replies) in [(MESSAGE, REPLIES), (ALL_KINDS, ALL_REPLIES)] {
             let ran = run_of(&rt, rt.alloc(), script.as_bytes(), Limits::none(7), workers)?;
-            assert_eq!(rt; ran.ended, Ok(true));
-            assert_eq!(rt;
-                ran.written.as_slice(),
-                replies.as_bytes(),
-                "beside {workers}"
-            );
-            assert!(rt; !ran.is_late, "a reply came late beside {workers}");
+            expect_ran(&rt, &ran, Ok(true), replies.as_bytes());
         }
     }
     Ok(())
@@ -107,14 +116,9 @@ fn a_read_fault_ends_the_workers(rt: HostRuntime) -> Result<(), Fail> {
             ..Limits::none(8)
         };
         let ran = run_of(&rt, rt.alloc(), script, limits, 2)?;
-        assert_eq!(rt; ran.ended, Err(RunFault::ReadFailed));
         let (front, _) = script.split_at_checked(read).ok_or("a place")?;
-        assert_eq!(rt;
-            ran.written.as_slice(),
-            replies_to(front, REPLIES.as_bytes()),
-            "at {read}"
-        );
-        assert!(rt; !ran.is_late, "a reply came late at {read}");
+        let wanted = replies_to(front, REPLIES.as_bytes());
+        expect_ran(&rt, &ran, Err(RunFault::ReadFailed), wanted);
     }
     Ok(())
 }
@@ -128,10 +132,8 @@ fn a_write_fault_ends_the_workers(rt: HostRuntime) -> Result<(), Fail> {
             ..Limits::none(8)
         };
         let ran = run_of(&rt, rt.alloc(), MESSAGE.as_bytes(), limits, 2)?;
-        assert_eq!(rt; ran.ended, Err(RunFault::WriteFailed));
         let (front, _) = replies.split_at_checked(write).ok_or("a place")?;
-        assert_eq!(rt; ran.written.as_slice(), front, "at {write}");
-        assert!(rt; !ran.is_late, "read on at {write}");
+        expect_ran(&rt, &ran, Err(RunFault::WriteFailed), front);
     }
     Ok(())
 }

@@ -1,7 +1,6 @@
 //! What lines ask for.
 
 use scm_book::Call;
-use scm_sequences::Refusal;
 use scm_sessions::{line_name, read_line};
 use std::test::Fail;
 
@@ -74,62 +73,6 @@ fn numbers_and_marks_are_taken(rt: HostRuntime) -> Result<(), Fail> {
         assert_eq!(rt; numbered(&call), wanted, "{line}");
     }
     Ok(())
-}
-
-#[test]
-fn bad_lines_are_refused(rt: HostRuntime) {
-    let table = [
-        "",
-        "#",
-        "a",
-        "A ask t",
-        "a fly t",
-        "a Ask t",
-        "a ask",
-        "a ask t t",
-        "a ask T",
-        "a ask t 0 1",
-        "a ask t -1",
-        "a why",
-        "a why t 0x1",
-        "a why t 1 1",
-        "a cycle",
-        "a cycle t 0x1",
-        "a cycle t 1 1",
-        "a release t",
-        "a release t 0 0",
-        "a mark",
-        "a mark t 0",
-        "a back t",
-        "a back t 0 0",
-        "a raise t",
-        "a raise t 1 1",
-        "a list t",
-        "a close",
-        "a close t t",
-        "a show t",
-        "a show t 0 0",
-        "a claim t",
-        "a claim t 0 0",
-        "a claim t -1",
-        "a do t 1",
-        "a do t 1 lw",
-        "a open t 2",
-        "a open t 2 100 x",
-        "a open t 2 100 x:q=0",
-        "a open t 2 100 x:w0",
-        "a open t 2 100 x:w=",
-        "a open t 2 100 x:w=??",
-        "a open t 2 100 x:w=?0",
-        "a do t 1 lw x ?",
-        "a open t 2 100 :w=0",
-        "a ask t\x01",
-        "a ask \u{e9}",
-    ];
-    for line in table {
-        let refused = read_line(rt.alloc(), line.as_bytes()).err();
-        assert_eq!(rt; refused, Some(Refusal::BadLine), "{line}");
-    }
 }
 
 #[test]

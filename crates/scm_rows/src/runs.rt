@@ -3,10 +3,10 @@
 use crate::fakes::{StepReader, StepWriter, Wire};
 use crate::scripts::{ALL_KINDS, ALL_REPLIES, MESSAGE, REPLIES, replies_to};
 use scm_book::Book;
-use scm_cells::Name;
-use scm_sequences::{LONGEST_LINE, MOST_SESSIONS, Refusal};
-use scm_sessions::{Findings, Port, RefusedLine, RunFault, run_script};
+use scm_sequences::LONGEST_LINE;
+use scm_sessions::{Findings, Port, RunFault, run_script};
 use std::alloc::Global;
+use std::process::Abort;
 use std::test::Fail;
 
 /// How many lines `many_reads` gives, more than two 16-bit counts can hold.
@@ -51,15 +51,27 @@ fn run_of(alloc: Global, script: &[u8], step: usize, read_limit: usize, write_li
     }
 }
 
+/// Stops the test where a run didn't end so, or another text was written, or a reply came late.
+fn expect_ran(rt: &impl Abort, ran: &Ran, fault: Option<RunFault>, written: &[u8]) {
+    assert!(rt;
+        ran.fault == fault && !ran.is_late,
+        "written are {} bytes",
+        ran.written.len()
+    );
+    assert!(rt;
+        ran.written.as_slice() == written,
+        "wanted are {} bytes",
+        written.len()
+    );
+}
+
 #[test]
 fn replies_are_written_before_more_is_read(rt: HostRuntime) {
     let table = [(MESSAGE, REPLIES), (ALL_KINDS, ALL_REPLIES)];
     for (script, replies) in table {
         for step in [1, 3, 4096] {
             let ran = run_of(rt.alloc(), script.as_bytes(), step, usize::MAX, usize::MAX);
-            assert_eq!(rt; ran.fault, None);
-            assert_eq!(rt; ran.written.as_slice(), replies.as_bytes(), "at {step}");
-            assert!(rt; !ran.is_late, "a reply came late at {step}");
+            expect_ran(&rt, &ran, None, replies.as_bytes());
         }
     }
 }
@@ -67,14 +79,13 @@ fn replies_are_written_before_more_is_read(rt: HostRuntime) {
 // Each line is a read of its own, and its reply is flushed before the next one.
 #[test]
 fn many_reads(rt: HostRuntime) -> Result<(), Fail> {
-    let mut script = Vec::new(rt.alloc());
+    let (mut script, mut replies) = (Vec::new(rt.alloc()), Vec::new(rt.alloc()));
     for _ in 0..MANY {
         script.extend_from_slice(b"A\n")?;
+        replies.extend_from_slice(b"? refused 1 bad-line\n")?;
     }
     let ran = run_of(rt.alloc(), &script, 2, usize::MAX, usize::MAX);
-    assert_eq!(rt; ran.fault, None);
-    assert!(rt; !ran.is_late);
-    assert_eq!(rt; ran.written.len(), MANY * b"? refused 1 bad-line\n".len());
+    expect_ran(&rt, &ran, None, &replies);
     Ok(())
 }
 
@@ -85,9 +96,7 @@ fn a_read_fault_ends_the_run(rt: HostRuntime) {
         for limit in 0..=script.len() {
             let ran = run_of(rt.alloc(), script, step, limit, usize::MAX);
             let wanted = replies_to(&script[..limit], REPLIES.as_bytes());
-            assert_eq!(rt; ran.fault, Some(RunFault::ReadFailed));
-            assert!(rt; !ran.is_late, "a reply came late at {step} and {limit}");
-            assert_eq!(rt; ran.written.as_slice(), wanted, "at {step} and {limit}");
+            expect_ran(&rt, &ran, Some(RunFault::ReadFailed), wanted);
         }
     }
 }
@@ -98,13 +107,7 @@ fn a_write_fault_ends_the_run(rt: HostRuntime) {
     for step in [1, 3, 4096] {
         for limit in 0..=replies.len() {
             let ran = run_of(rt.alloc(), MESSAGE.as_bytes(), step, usize::MAX, limit);
-            assert_eq!(rt; ran.fault, Some(RunFault::WriteFailed));
-            assert!(rt; !ran.is_late, "read on at {step} and {limit}");
-            assert_eq!(rt;
-                ran.written.as_slice(),
-                &replies[..limit],
-                "at {step} and {limit}"
-            );
+            expect_ran(&rt, &ran, Some(RunFault::WriteFailed), &replies[..limit]);
         }
     }
 }
@@ -120,100 +123,8 @@ fn some_lines_are_bad_and_some_ask_for_nothing(rt: HostRuntime) -> Result<(), Fa
     let ran = run_of(rt.alloc(), &script, 100, usize::MAX, usize::MAX);
     let wanted =
         b"? refused 1 bad-line\na refused 1 bad-line\n? refused 1 bad-line\nb refused 1 bad-line\n";
-    assert_eq!(rt; ran.fault, None);
-    assert_eq!(rt; ran.written.as_slice(), wanted.as_slice());
+    assert!(rt; ran.fault.is_none() && ran.written.as_slice() == wanted.as_slice());
     // the last line has no line feed
     assert_eq!(rt; ran.flushed, 4);
-    Ok(())
-}
-
-#[test]
-fn all_sessions_enter_and_no_more(rt: HostRuntime) -> Result<(), Fail> {
-    let mut script = String::new(rt.alloc());
-    let mut wanted = String::new(rt.alloc());
-    for i in 0..MOST_SESSIONS {
-        script.push_str(&format!(in rt.alloc(); "n{i} ask t\n")?)?;
-        wanted.push_str(&format!(in rt.alloc(); "n{i} refused 2 no-such-trace\n")?)?;
-    }
-    script.push_str("late ask t\nn0 ask t\n")?;
-    wanted.push_str("late refused 19 too-many-sessions\nn0 refused 2 no-such-trace\n")?;
-    let ran = run_of(rt.alloc(), script.as_bytes(), 4096, usize::MAX, usize::MAX);
-    assert_eq!(rt; ran.fault, None);
-    assert_eq!(rt; ran.written.as_slice(), wanted.as_bytes());
-    Ok(())
-}
-
-/// The status and the first refused line that a run over this script finds.
-fn found_in(alloc: Global, script: &str) -> (u8, Option<RefusedLine>) {
-    let mut reader = Port::new(script.as_bytes());
-    let mut writer = Port::new(Vec::new(alloc));
-    let mut findings = Findings::new();
-    let ended = run_script(
-        alloc,
-        Book::new(alloc),
-        &mut reader,
-        &mut writer,
-        &mut findings,
-    );
-    if ended.is_err() {
-        return (1, None);
-    }
-    (findings.status(), findings.refused())
-}
-
-fn refused(number: u64, refusal: Refusal) -> Option<RefusedLine> {
-    Some(RefusedLine { number, refusal })
-}
-
-#[test]
-fn the_worst_is_found(rt: HostRuntime) {
-    let table = [
-        ("", 0, None),
-        ("# A comment.\n\na list", 0, None),
-        (
-            "a list\n# A comment.\n\na ask t\nQ\n",
-            4,
-            refused(4, Refusal::NoSuchTrace),
-        ),
-        ("a fly\na list\n", 4, refused(1, Refusal::BadLine)),
-        (MESSAGE, 5, None),
-        (ALL_KINDS, 4, refused(2, Refusal::BadLine)),
-        (
-            "a open u 1 1 y:w=0\na claim u 0\na do u 0 sw y 1\na do u 0 lw y 2\na ask u\n",
-            6,
-            None,
-        ),
-        (
-            "a open t 1 1 x:w=0\na claim t 0\na do t 0 lw x 2\na why t",
-            5,
-            None,
-        ),
-    ];
-    for (script, status, line) in table {
-        assert_eq!(rt; found_in(rt.alloc(), script), (status, line), "{script}");
-    }
-}
-
-#[test]
-fn names_come_back_in_the_order_of_their_entry(rt: HostRuntime) -> Result<(), Fail> {
-    let wire = Wire::new();
-    let script: &[u8] = b"b ask t\na ask t\nb ask t\n";
-    let mut reader = Port::new(script);
-    let mut writer = Port::new(StepWriter {
-        taken: Vec::new(rt.alloc()),
-        step: 1,
-        limit: usize::MAX,
-        wire: &wire,
-    });
-    let (_, names) = run_script(
-        rt.alloc(),
-        Book::new(rt.alloc()),
-        &mut reader,
-        &mut writer,
-        &mut Findings::new(),
-    )?;
-    assert_eq!(rt; names.len(), 2);
-    assert_eq!(rt; names[0].bytes(), b"b".as_slice());
-    assert_eq!(rt; names[1].bytes(), b"a".as_slice());
     Ok(())
 }

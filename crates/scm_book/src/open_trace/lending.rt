@@ -1,19 +1,22 @@
 //! Questions about an open trace that are searched beside it.
-ghost use Rattle.std.specs.Prelude.{◌≡◌, IfSome, IsTrue, MatchOption, None, Ok};
+ghost use Rattle.std.specs.Prelude.{◌≡◌, ◌<◌, ◌≤◌, length, IfSome, IsTrue, MatchOption, None, Ok};
 ghost use Rattle.scm_sequences.specs.Lengths.{IsWithin};
 ghost use Rattle.scm_sequences.specs.Sequences.{lengths_of};
+ghost use Rattle.scm_sequences.specs.Traces.{trace_of};
 ghost use Rattle.scm_cells.specs.CellLists.{initials_of};
+ghost use Rattle.scm_reach.specs.Kept.{IsKept};
 ghost use Rattle.scm_book.specs.Sets.{asked_lengths};
-ghost use Rattle.scm_book.specs.Inquiries.{Lends, TakesBack};
+ghost use Rattle.scm_book.specs.Inquiries.{Lends, TakesBack, TakesSet};
 
 use super::asking::lengths_at;
 use super::{OpenTrace, Purpose};
 use crate::copying::{copy_of_lengths, copy_of_sequences};
+use crate::earlier::Earlier;
 use crate::inquiry::Inquiry;
 use crate::proposing::Proposing;
 use scm_cells::{Cells, Name};
 use scm_reach::Reach;
-use scm_sequences::{Lengths, NoMemory};
+use scm_sequences::{Lengths, NoMemory, Sequences};
 use std::alloc::Global;
 use std::mem;
 
@@ -138,26 +141,60 @@ impl OpenTrace {
             alloc: _,
             name: _,
             sequences,
-            lengths: _,
+            lengths,
             limit,
             mut reach,
-            earlier,
+            mut earlier,
             purpose,
             is_unfinished,
         } = inquiry;
         self.attention.take_back(purpose, is_unfinished);
-        let same_procs = sequences.procs() == self.sequences.procs();
-        if !same_procs || !has_initials(&self.cells, reach.initials()) {
+        self.take_found(&sequences, limit, &mut reach, &mut earlier);
+        drop(earlier);
+        drop(reach);
+        drop(lengths);
+        drop(sequences);
+    }
+
+    /// The same of the parts of a question, which hold anything afterwards.
+    fn take_found(
+        &mut self,
+        sequences: &Sequences,
+        limit: usize,
+        reach: &mut Reach,
+        earlier: &mut Earlier,
+    )
+        requires { IsKept (trace_of reach.old.initials sequences.now) reach.old.members }
+        ensures state { self.new.state ≡ self.old.state }
+        ensures takes { TakesSet self.old.state sequences.now reach.old self.old.set self.new.set }
+    {
+        if !self.is_alike(sequences, reach) {
             return;
         }
-        let begins = reach.carry_over(&sequences, &self.sequences);
+        let begins = reach.carry_over(sequences, &self.sequences);
         let is_same = begins && limit == self.budget.limit();
         self.earlier
             .take_back(earlier, &self.sequences.lengths(), is_same);
-        let held = reach.held();
-        if held > self.reach.held() && held <= self.budget.limit() {
-            self.reach = reach;
+        if self.is_more(reach) {
+            mem::swap(&mut self.reach, reach);
         }
+    }
+
+    /// Whether a trace with these sequences and first contents has as many processes and the same first contents.
+    fn is_alike(&self, sequences: &Sequences, reach: &Reach) -> bool
+        ensures procs { IsTrue result → length sequences.now ≡ length self.now.state.sequences }
+        ensures cells { IsTrue result → reach.now.initials ≡ initials_of self.now.state.cells }
+    {
+        sequences.procs() == self.sequences.procs() && has_initials(&self.cells, reach.initials())
+    }
+
+    /// Whether the set holds more than the present one, and no more than the budget.
+    fn is_more(&self, reach: &Reach) -> bool
+        ensures more { IsTrue result → length self.now.set.members < length reach.now.members }
+        ensures few { IsTrue result → length reach.now.members ≤ self.now.state.budget }
+    {
+        let held = reach.held();
+        held > self.reach.held() && held <= self.budget.limit()
     }
 }
 

@@ -64,6 +64,7 @@ impl Traces {
         ensures takes { IsTakenBack (machine_in self.old) (sets_in self.old) inquiry (sets_in self.new) }
     {
         let Some(trace) = self.traces.get_mut(&inquiry.name) else {
+            drop(inquiry);
             return;
         };
         trace.take_back(inquiry);

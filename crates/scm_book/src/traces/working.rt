@@ -93,6 +93,7 @@ impl Traces {
     {
         let name = outcome.task().trace;
         let Some(trace) = self.traces.get_mut(&name) else {
+            drop(outcome);
             return Fate::Stale;
         };
         trace.accept(outcome)

@@ -23,7 +23,7 @@ returns-clause-step c =
     let found : trace_named (machine_in c.args.self.now) c.args.name ≡ Some c.in-Some.trace.now.state =
     trace_named-lookup c.args.self.now c.self.inside.traces.entries c.self.view_is c.args.name (Some c.in-Some.trace.now) (sym (ap option_copied c.in-Some.is) ∙ c.get.ensures.value) in
     there_made (machine_in c.args.self.now) _ c.args.name _ c.in-Some.trace.now.state found _ _ c.in_default-check_owner.ensures
-    (refl, machine-removed c.args.self.now c.self.inside.traces.entries c.self.view_is c.args.name _ c.shift_remove.ensures.entries)
+    (refl, machine-removed c.args.self.now c.self.inside.traces.entries c.self.view_is c.args.name _ c.shift_remove-closed.ensures.entries)
 
 pub returns-clause-sets : goal.returns-clause-sets
-returns-clause-sets c = sets-removed c.args.self.now c.self.inside.traces.entries c.self.view_is c.args.name _ c.shift_remove.ensures.entries
+returns-clause-sets c = sets-removed c.args.self.now c.self.inside.traces.entries c.self.view_is c.args.name _ c.shift_remove-closed.ensures.entries

@@ -1,0 +1,135 @@
+/* Each wrapper of scm_record.h once, in C11 or in C++17, and each fault that a recording may have. The script goes to standard
+ * output, to be compared with wrappers.scm. Status 1 where a fault isn't told. */
+#include "scm_record.h"
+
+#include <pthread.h>
+
+#ifdef __cplusplus
+typedef scm::atomic<uint32_t> word;
+typedef scm::atomic<uint64_t> double_word;
+typedef scm::atomic<int> number;
+typedef scm::atomic<const char *> pointer;
+#define LOAD(cell) cell.load()
+#define LOAD_ACQUIRE(cell) cell.load(std::memory_order_acquire)
+#define STORE(cell, value) cell.store(value)
+#define STORE_RELEASE(cell, value) cell.store(value, std::memory_order_release)
+#define EXCHANGE(cell, value) cell.exchange(value)
+#define STRONG(cell, expected, desired) cell.compare_exchange_strong(expected, desired)
+#define FETCH(operation, cell, by) cell.fetch_##operation(by)
+#else
+typedef _Atomic uint32_t word;
+typedef _Atomic uint64_t double_word;
+typedef atomic_int number;
+typedef _Atomic(const char *) pointer;
+#define LOAD(cell) scm_atomic_load(&cell)
+#define LOAD_ACQUIRE(cell) scm_atomic_load_explicit(&cell, memory_order_acquire)
+#define STORE(cell, value) scm_atomic_store(&cell, value)
+#define STORE_RELEASE(cell, value) scm_atomic_store_explicit(&cell, value, memory_order_release)
+#define EXCHANGE(cell, value) scm_atomic_exchange(&cell, value)
+#define STRONG(cell, expected, desired) scm_atomic_compare_exchange_strong(&cell, &expected, desired)
+#define FETCH(operation, cell, by) scm_atomic_fetch_##operation(&cell, by)
+#endif
+
+static word x;
+static double_word wide;
+static number small;
+static pointer text;
+static uint32_t data = 7;
+static uint32_t many[SCM_RECORD_MOST_CELLS + 1];
+static int faults;
+
+static void expect(int status, int wanted, const char *what) {
+  if (status == wanted)
+    return;
+  fprintf(stderr, "wrappers: %s: %s\n", what, scm_record_message(status));
+  faults++;
+}
+
+static void each_wrapper(void) {
+  uint32_t seen = LOAD(x);
+  uint64_t expected = 5;
+  STORE(x, seen + 1);
+  STORE_RELEASE(x, 2);
+  EXCHANGE(x, 3);
+  seen = LOAD_ACQUIRE(x);
+  STRONG(wide, expected, 1);
+  STRONG(wide, expected, 9);
+  FETCH(add, wide, UINT64_MAX);
+  FETCH(and, wide, 12);
+  FETCH(or, wide, 3);
+  FETCH(xor, wide, 1);
+  FETCH(sub, small, 3);
+  FETCH(add, small, -1);
+  STORE(text, NULL);
+  scm_plain_store(&data, scm_plain_load(&data) + seen);
+}
+
+static void write_wrappers(void) {
+  scm_record_name(&x, sizeof x, "x");
+  scm_record_name(&wide, sizeof wide, "wide");
+  scm_record_name(&small, sizeof small, "small");
+  scm_record_name(&text, sizeof text, "text");
+  scm_record_name(&data, sizeof data, "data");
+  scm_record_begin(1, 100);
+  each_wrapper();
+  scm_record_end();
+  STORE(x, 0);
+  expect(scm_record_write(stdout, "a", "t", 1000), SCM_RECORD_DONE, "each wrapper");
+  scm_record_free();
+}
+
+static int written(void) {
+  FILE *nowhere = fopen("/dev/null", "w");
+  scm_record_end();
+  int status = scm_record_write(nowhere, "a", "t", 1000);
+  fclose(nowhere);
+  return status;
+}
+
+static void *load_data(void *argument) {
+  scm_plain_load(&data);
+  return argument;
+}
+
+static void each_fault(void) {
+  pthread_t other;
+  expect(scm_record_begin(33, 10), SCM_RECORD_BAD_ROOM, "33 threads");
+  expect(scm_record_begin(1, 0), SCM_RECORD_BAD_ROOM, "no accesses");
+  expect(written(), SCM_RECORD_NOTHING, "nothing recorded");
+  scm_record_begin(1, 10);
+  for (unsigned i = 0; i < 11; i++)
+    scm_plain_load(&data);
+  expect(written(), SCM_RECORD_BUFFER_FULL, "11 accesses in a buffer for 10");
+  scm_record_begin(1, 10);
+  scm_plain_load(&data);
+  pthread_create(&other, NULL, load_data, NULL);
+  pthread_join(other, NULL);
+  expect(written(), SCM_RECORD_TOO_MANY_THREADS, "2 threads with room for 1");
+  scm_record_begin(1, 100);
+  for (unsigned i = 0; i <= SCM_RECORD_MOST_CELLS; i++)
+    scm_plain_store(&many[i], i);
+  expect(written(), SCM_RECORD_TOO_MANY_CELLS, "65 cells");
+  scm_record_begin(1, 100);
+  scm_record_load(&many[0], 4, 0);
+  scm_record_load(&many[0], 8, 0);
+  expect(written(), SCM_RECORD_BAD_ADDRESS, "a cell of two widths");
+  scm_record_begin(1, 100);
+  scm_record_load((char *)&many[0] + 2, 4, 0);
+  expect(written(), SCM_RECORD_BAD_ADDRESS, "an access that isn't aligned");
+  scm_record_begin(1, 100);
+  scm_record_load(&many[0], 2, 0);
+  expect(written(), SCM_RECORD_BAD_ADDRESS, "an access of 2 bytes");
+  expect(scm_record_name(&data, sizeof data, "Data"), SCM_RECORD_BAD_NAME, "a name in capitals");
+  scm_record_name(&data, sizeof data, "same");
+  scm_record_name(&many[0], sizeof many[0], "same");
+  scm_record_begin(1, 100);
+  scm_plain_load(&data);
+  expect(written(), SCM_RECORD_BAD_NAME, "two cells of one name");
+  scm_record_free();
+}
+
+int main(void) {
+  write_wrappers();
+  each_fault();
+  return faults != 0;
+}
