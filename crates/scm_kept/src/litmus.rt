@@ -132,7 +132,7 @@ fn size_of(rt: &impl Abort, before: &str, behind: &str) -> (usize, u8) {
             cells = cells.max(op.cell().saturating_add(1));
         }
     }
-    (procs, cells as u8)
+    (procs, u8::try_from(cells).expect(rt, "few cells"))
 }
 
 /// A form, and the ballast with which a small trace fills it: so many processes, each of which writes so many values to

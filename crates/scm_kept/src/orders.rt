@@ -55,7 +55,7 @@ fn number(rt: &impl Abort, text: &str) -> u32 {
 fn place_of(rt: &impl Abort, text: &str) -> Place {
     let (process, at) = text.split_once('.').expect(rt, "a process and a place");
     Place {
-        process: number(rt, process) as u8,
+        process: process.parse::<u8>().expect(rt, "a process"),
         at: number(rt, at),
     }
 }
