@@ -1,7 +1,8 @@
 //! The program: it reads a script from standard input and writes the replies to standard output.
 #![tactic(auto)]
 
-ghost use Rattle.std.specs.Prelude.{◌≡◌, false};
+ghost use Rattle.std.specs.Prelude.{◌≡◌, false, IsTrue};
+ghost use Rattle.scm_sessions.specs.JournalText.{AreNamed};
 ghost use Rattle.scm_sessions.specs.Ports.{has_failed};
 
 mod command_line;
@@ -166,6 +167,22 @@ fn run_alone<R: Read, W: Write>(
     Ok(())
 }
 
+// Writes the journal where it is asked for and the audit agreed. Tells whether it did.
+fn write_agreed<W: Write>(
+    writer: &mut Port<W>,
+    ended: Ended,
+    journal: bool,
+) -> Result<bool, RunFault>
+    requires writes { has_failed writer.old ≡ false }
+    requires named { IsTrue ended.audit.agreed → AreNamed ended.names.items ended.audit.book.journal }
+{
+    let Ended { audit, names } = ended;
+    if journal && audit.agreed {
+        write_journal(writer, &audit.book, names.as_slice())?;
+    }
+    Ok(audit.agreed)
+}
+
 // The same beside workers. Tells whether the audit at the end agreed; where it didn't, no journal is written.
 fn run_beside<H: AllocGlobal + Threads + Wait + Sync, R: Read, W: Write>(
     rt: &H,
@@ -180,13 +197,10 @@ fn run_beside<H: AllocGlobal + Threads + Wait + Sync, R: Read, W: Write>(
     let alloc = rt.alloc();
     let token = BookToken::new(alloc)?;
     let workers = usize::from(options.workers);
-    let Ended { audit, names } = run_with_workers::<Brand, R, W, FreeGate, H>(
+    let ended = run_with_workers::<Brand, R, W, FreeGate, H>(
         rt, alloc, token, reader, writer, findings, &FreeGate, workers,
     )?;
-    if options.journal && audit.agreed {
-        write_journal(writer, &audit.book, names.as_slice())?;
-    }
-    Ok(audit.agreed)
+    write_agreed(writer, ended, options.journal)
 }
 
 // The same with a thread for each session.
@@ -203,11 +217,8 @@ fn run_apart<H: AllocGlobal + Threads + Wait + Sync, R: Read, W: Write>(
     let alloc = rt.alloc();
     let token = BookToken::new(alloc)?;
     let workers = usize::from(options.workers);
-    let Ended { audit, names } = run_each::<Brand, R, W, FreeGate, H>(
+    let ended = run_each::<Brand, R, W, FreeGate, H>(
         rt, alloc, token, reader, writer, findings, &FreeGate, workers,
     )?;
-    if options.journal && audit.agreed {
-        write_journal(writer, &audit.book, names.as_slice())?;
-    }
-    Ok(audit.agreed)
+    write_agreed(writer, ended, options.journal)
 }
