@@ -10,6 +10,7 @@ import traces
 
 READS = (0.3, 0.5, 0.8)
 SLICES = (1, 10, 100)
+VALUES = (2, 3, 4, 6, 8, 16, 32, 64, 0)
 SECONDS = 120
 ALONE = ("--workers", "0")
 
@@ -60,6 +61,22 @@ def synchronized(name, procs, samples):
         for _ in range(samples):
             memory, count = traces.synchronized(rng, name, procs, 1_000, slice_)
             yield traces.script(memory, count)
+
+
+def of_values(procs, length, cells, values, scheduler, samples):
+    rng = random.Random(f"values {procs} {length} {values} {scheduler}")
+    for _ in range(samples):
+        yield traces.script(*traces.of_values(rng, procs, length, cells, values, scheduler))
+
+
+def rows_of_values(samples):
+    """A row for each size and number of values under a fair scheduler, and for the other schedulers."""
+    sizes = ((4, 200, 4), (4, 1_000, 8), (8, 200, 8), (8, 1_000, 16), (16, 200, 16), (16, 1_000, 16))
+    kinds = [(*size, values, "fair") for size in sizes for values in VALUES]
+    kinds += [(8, 200, 8, values, name) for name in traces.SCHEDULERS if name != "fair" for values in (8, 16, 32, 64)]
+    for procs, length, cells, values, name in kinds:
+        told = f"{values} values" if values else "unique"
+        yield f"values: {procs} x {length}, {told}, {name}", of_values(procs, length, cells, values, name, samples)
 
 
 def explained(lines):
@@ -121,6 +138,7 @@ def main():
     rows += [(f"{p} x {n}, unique values", at_random(p, n, (2, 8, 32), 0, samples)) for p, n in itertools.product((16, 32), (200, 1_000))]
     rows += [(f"{p} x 1000, {name}", synchronized(name, p, samples)) for name, p in itertools.product(traces.PROGRAMS, (4, 8))]
     rows += [(f"{p} x 200, three values", at_random(p, 200, (2, 8, 32), 3, samples)) for p in (4, 8)]
+    rows += rows_of_values(samples)
     rows += [("2 x 65535, by turns", iter([traces.script(*traces.by_turns(65_535))]))]
     for name, scripts in rows:
         if only in name:

@@ -84,6 +84,67 @@ def at_random(rng, procs, length, cells, reads, slice_, values=0):
     return run(rng, memory, procs, length, slice_, steps), cells
 
 
+def fair(rng, procs, length):
+    """Any process that has something left comes next."""
+    left = [length] * procs
+    while any(left):
+        process = rng.choice([p for p in range(procs) if left[p]])
+        left[process] -= 1
+        yield process
+
+
+def in_slices(rng, procs, length):
+    """A process makes 1 to 200 accesses at a time."""
+    left = [length] * procs
+    while any(left):
+        process = rng.choice([p for p in range(procs) if left[p]])
+        count = min(rng.randint(1, 200), left[process])
+        left[process] -= count
+        yield from [process] * count
+
+
+def at_speeds(rng, procs, length):
+    """Processes are 1 to 6 times as fast as the slowest can be."""
+    left, speeds = [length] * procs, [rng.randint(1, 6) for _ in range(procs)]
+    while any(left):
+        process = rng.choices(range(procs), [speed * bool(more) for speed, more in zip(speeds, left)])[0]
+        left[process] -= 1
+        yield process
+
+
+def in_phases(rng, procs, length, phase=50):
+    """All processes wait for each other after every 50 accesses."""
+    for begin in range(0, length, phase):
+        yield from fair(rng, procs, min(phase, length - begin))
+
+
+def with_one_late(rng, procs, length):
+    """Process 0 begins when the others are half done."""
+    order = [process + 1 for process in fair(rng, procs - 1, length)]
+    rest = order[len(order) // 2 :] + [0] * length
+    rng.shuffle(rest)
+    return order[: len(order) // 2] + rest
+
+
+SCHEDULERS = {"fair": fair, "slices": in_slices, "speeds": at_speeds, "phases": in_phases, "late": with_one_late, "hot cell": fair}
+
+
+def of_values(rng, procs, length, cells, values, scheduler):
+    """Half of the accesses load, one in twenty swaps; under the last scheduler half of all are about one cell."""
+    memory = Memory(procs, cells)
+    for process in SCHEDULERS[scheduler](rng, procs, length):
+        cell = 0 if scheduler == "hot cell" and rng.random() < 0.5 else rng.randrange(cells)
+        value = rng.randrange(values) if values else memory.unused()
+        kind = rng.random()
+        if kind < 0.5:
+            memory.load(process, cell)
+        elif kind < 0.55:
+            memory.swap(process, cell, value)
+        else:
+            memory.store(process, cell, value)
+    return memory, cells
+
+
 def lock(rng, memory, process):
     while True:
         while memory.swap(process, 0, 1) != 0:

@@ -9,6 +9,7 @@ mod grid;
 mod numbering;
 mod numbers;
 mod values;
+mod writers;
 mod writes;
 
 pub use clocks::Clocks;
@@ -17,4 +18,5 @@ pub use grid::Grid;
 pub use numbering::Numbering;
 pub use numbers::{Numbers, is_covered};
 pub use values::Values;
+pub use writers::Writers;
 pub use writes::Writes;

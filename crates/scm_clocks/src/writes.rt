@@ -11,7 +11,7 @@ pub struct Writes {
 }
 
 // How many of these numbers, which rise, are less than `bound`.
-fn count_below(numbers: &[u32], bound: u32) -> usize {
+pub(crate) fn count_below(numbers: &[u32], bound: u32) -> usize {
     let (mut low, mut high) = (0, numbers.len());
     for _ in 0..numbers.len() {
         if low >= high {
@@ -64,6 +64,11 @@ impl Writes {
     /// The places of the writes of a process to a cell.
     pub fn of(&self, process: u32, cell: u32) -> Option<&[u32]> {
         Some(self.lists.get(self.list(process, cell)?)?.as_slice())
+    }
+
+    /// How many writes of a process to a cell stand before a place.
+    pub fn count(&self, process: u32, cell: u32, place: u32) -> Option<u32> {
+        u32::try_from(count_below(self.of(process, cell)?, place)).ok()
     }
 
     /// The last write of a process to a cell before a place.

@@ -1,6 +1,5 @@
 //! What each read may see.
-use crate::writers::Writers;
-use scm_clocks::{Numbering, Values};
+use scm_clocks::{Numbering, Values, Writers};
 use std::alloc::Global;
 
 /// The most candidates of a trace: one that has more gets no list.

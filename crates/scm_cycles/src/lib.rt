@@ -11,6 +11,5 @@ mod lines;
 mod paths;
 mod rules;
 mod search;
-mod writers;
 
 pub use finding::find_cycle;

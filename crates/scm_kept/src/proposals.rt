@@ -4,7 +4,7 @@ use crate::judged::is_legal_schedule;
 use crate::litmus::ROWS;
 use crate::traces::{INITIALS, parts_of, read, sequences_in, swap, write};
 use scm_proposals::propose;
-use scm_sequences::Sequences;
+use scm_sequences::{MOST_PROCESSES, Sequences};
 use std::alloc::Global;
 use std::process::Abort;
 
@@ -38,15 +38,37 @@ fn consistent_rows_are_decided(rt: HostRuntime) {
     assert!(rt; missed == 3, "{missed}");
 }
 
-/// What a memory did, whose two cells three processes accessed as it came, so many times, with three values.
-fn of_few_values(rt: &impl Abort, alloc: Global, seed: u64, accesses: u8) -> Sequences {
+/// How many processes, cells and values a trace has.
+#[derive(Clone, Copy)]
+struct Size {
+    processes: u8,
+    cells: u8,
+    values: u8,
+}
+
+const FEW_VALUES: Size = Size {
+    processes: 3,
+    cells: 2,
+    values: 3,
+};
+
+const SEVERAL_VALUES: Size = Size {
+    processes: 4,
+    cells: 3,
+    values: 8,
+};
+
+/// What a memory did, whose cells the processes accessed as it came, so many times.
+fn of_size(rt: &impl Abort, alloc: Global, size: Size, seed: u64, accesses: u8) -> Sequences {
     let mut numbers = Numbers::new(seed);
-    let mut contents = [0, 0];
-    let mut sequences = Sequences::new(alloc, 3).expect(rt, "memory");
+    let mut contents = [0; 3];
+    let procs = usize::from(size.processes);
+    assert!(rt; 0 < procs && procs <= MOST_PROCESSES);
+    let mut sequences = Sequences::new(alloc, procs).expect(rt, "memory");
     for _ in 0..accesses {
-        let process = usize::from(numbers.below(3));
-        let cell = numbers.below(2);
-        let value = u64::from(numbers.below(3));
+        let process = usize::from(numbers.below(size.processes));
+        let cell = numbers.below(size.cells);
+        let value = u64::from(numbers.below(size.values));
         let held = contents.get_mut(usize::from(cell)).expect(rt, "a cell");
         let (op, left) = match numbers.below(3) {
             0 => (read(cell, *held), *held),
@@ -61,6 +83,13 @@ fn of_few_values(rt: &impl Abort, alloc: Global, seed: u64, accesses: u8) -> Seq
     sequences
 }
 
+/// Whether a schedule is proposed for such a trace.
+fn decides(rt: &impl Abort, alloc: Global, size: Size, seed: u64, accesses: u8, room: usize) -> bool {
+    let sequences = of_size(rt, alloc, size, seed, accesses);
+    let zeros = [Some(0), Some(0), Some(0)];
+    is_decided(rt, alloc, &zeros, &sequences, room)
+}
+
 /// Here all states of the beam die, and it finds a schedule after it went back. One that never goes back, or is made no wider,
 /// finds none of the four, one that always begins anew only the third, and one that goes equally far back each time all but
 /// that.
@@ -72,8 +101,22 @@ fn a_beam_goes_back(rt: HostRuntime) {
         (1_314, 100, 5_200),
         (1_707, 100, 5_200),
     ] {
-        let sequences = of_few_values(&rt, rt.alloc(), seed, accesses);
-        let zeros = [Some(0), Some(0)];
-        assert!(rt; is_decided(&rt, rt.alloc(), &zeros, &sequences, room));
+        assert!(rt; decides(&rt, rt.alloc(), FEW_VALUES, seed, accesses, room));
+    }
+}
+
+/// Neither a walk nor a beam finds these: the sources of reads are searched.
+#[test]
+fn sources_are_searched(rt: HostRuntime) {
+    for seed in [1, 2, 5] {
+        assert!(rt; decides(&rt, rt.alloc(), SEVERAL_VALUES, seed, 120, 5_000));
+    }
+}
+
+/// The fuel ends in the walk, in the first order of a search, under a skew, and in the beam.
+#[test]
+fn fuel_ends_anywhere(rt: HostRuntime) {
+    for room in [0, 100, 1_000, 2_000] {
+        assert!(rt; !decides(&rt, rt.alloc(), SEVERAL_VALUES, 2, 120, room));
     }
 }

@@ -1,15 +1,19 @@
 //! What is known of a trace before the walk.
 use crate::beginning::Beginning;
 use crate::sources::Sources;
-use scm_clocks::{Numbering, Values, Writes};
+use scm_clocks::{Numbering, Values, Writers, Writes};
 use scm_sequences::{Lengths, Sequences};
 use std::alloc::Global;
+
+/// How many values a cell has at least, in the mean, where a search over sources comes before a beam.
+const FEW_VALUES: u32 = 5;
 
 #[derive(Drop)]
 pub(crate) struct Facts {
     pub(crate) numbering: Numbering,
     pub(crate) values: Values,
     pub(crate) writes: Writes,
+    pub(crate) writers: Writers,
     pub(crate) sources: Sources,
     pub(crate) procs: u32,
     pub(crate) ops: u32,
@@ -30,6 +34,7 @@ impl Facts {
         let cells = u32::try_from(beginning.contents.len()).ok()?;
         let mut values = Values::new(alloc, &beginning.contents, &numbering)?;
         let writes = Writes::new(alloc, cells, &numbering, &values)?;
+        let writers = Writers::new(alloc, &numbering, &values)?;
         let sources = Sources::new(alloc, &numbering, &mut values)?;
         Some(Facts {
             procs,
@@ -38,6 +43,7 @@ impl Facts {
             numbering,
             values,
             writes,
+            writers,
             sources,
         })
     }
@@ -54,7 +60,30 @@ impl Facts {
 
     /// The source of a read, if it is known.
     pub(crate) fn source(&self, x: u32) -> Option<u32> {
-        *self.sources.of.get(x as usize)?
+        self.sources.get(x)
+    }
+
+    /// The read `x` has this source.
+    pub(crate) fn settle(&mut self, x: u32, source: u32) -> Option<()> {
+        self.sources
+            .settle(&self.numbering, &self.values, x, source)
+    }
+
+    /// The reads have the sources that are known there.
+    pub(crate) fn take_over(&mut self, others: &Facts) -> Option<()> {
+        self.sources
+            .take_over(&self.numbering, &self.values, &others.sources)
+    }
+
+    /// Whether a cell has so few values that a state tells more than a source.
+    pub(crate) fn has_few_values(&self) -> bool {
+        self.values.count() < self.cells.saturating_mul(FEW_VALUES)
+    }
+
+    /// Whether this can't be the source of `x`, since it was excluded, or what it wrote is overwritten by another one.
+    pub(crate) fn is_excluded(&self, x: u32, source: u32) -> Option<bool> {
+        let is_overwriting = self.written(x).is_some();
+        self.sources.is_excluded(x, source, is_overwriting)
     }
 
     /// Whether an operation leaves its cell as it finds it, whoever wrote the value.

@@ -2,9 +2,11 @@
 //! believed, and no contract here says more than that a call is safe and ends; `scm_schedules::is_legal` is the judge.
 #![tactic(auto)]
 
+mod appraisal;
 mod awaited;
 mod beam;
 mod beginning;
+mod candidates;
 mod choosing;
 mod effort;
 mod ending;
@@ -19,6 +21,9 @@ mod proposal;
 mod rank;
 mod saturation;
 mod score;
+mod search;
+mod skew;
+mod skews;
 mod sources;
 mod state;
 mod waits;

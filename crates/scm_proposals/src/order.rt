@@ -18,6 +18,11 @@ pub(crate) struct Order {
     pub(crate) fuel: u64,
     /// What is left of the fuel for one write's consequences.
     pub(crate) share: u64,
+    /// Whether the candidates of reads whose source isn't known are looked at, and those of the read that was looked at last.
+    pub(crate) is_narrowing: bool,
+    pub(crate) candidates: Vec<u32>,
+    /// What was visited last.
+    pub(crate) visited: u32,
 }
 
 impl Order {
@@ -30,12 +35,21 @@ impl Order {
             window: u32::MAX,
             fuel,
             share: fuel,
+            is_narrowing: false,
+            candidates: Vec::new(alloc),
+            visited: 0,
             facts,
         };
-        for place in 0..order.facts.ops {
-            order.flag_at(place)?;
-        }
+        order.flag_all()?;
         Some(order)
+    }
+
+    /// Flags all operations, in turn for all processes.
+    pub(crate) fn flag_all(&mut self) -> Option<()> {
+        for place in 0..self.facts.ops {
+            self.flag_at(place)?;
+        }
+        Some(())
     }
 
     // Flags the operations at a place of all processes.
@@ -114,7 +128,7 @@ impl Order {
 
     // The place of the first operation of a process within the window that comes after the one at a place of `owner`, or
     // the end of the window.
-    fn first_after(&self, process: u32, owner: u32, place: u32) -> Option<u32> {
+    pub(crate) fn first_after(&self, process: u32, owner: u32, place: u32) -> Option<u32> {
         let mut low = self.counts.get(process)?;
         let mut high = low
             .saturating_add(self.window)
@@ -135,7 +149,7 @@ impl Order {
     }
 
     // So many operations of a process come before `x`. Whether that is new.
-    fn raise(&mut self, x: u32, process: u32, count: u32) -> Option<bool> {
+    pub(crate) fn raise(&mut self, x: u32, process: u32, count: u32) -> Option<bool> {
         if self.clocks.get(x, process)? >= count {
             return Some(false);
         }

@@ -4,6 +4,8 @@ use crate::beginning::Beginning;
 use crate::facts::Facts;
 use crate::fuel::fuel_of_beam;
 use crate::order::Order;
+use crate::search::Search;
+use crate::skews::fuel_of_search;
 use crate::walk::Walk;
 use scm_sequences::{Lengths, Sequences};
 use std::alloc::Global;
@@ -101,7 +103,8 @@ impl Proposer<'_> {
         self.schedule(kept, &walk)
     }
 
-    /// A schedule that is made from nothing: by a walk, or else by a beam, if the order doesn't contradict itself.
+    /// A schedule that is made from nothing: by a walk, or else by a beam or a search over sources, if the order doesn't
+    /// contradict itself.
     fn complete_from_nothing(&self) -> Option<Vec<u8>> {
         let mut walk = self.walk(0)?;
         if walk.make_all().is_some() {
@@ -111,7 +114,33 @@ impl Proposer<'_> {
         if fuel == 0 {
             return None;
         }
-        complete_by_beam(self.alloc, &walk.order.facts, fuel)
+        let facts = &walk.order.facts;
+        if facts.has_few_values() {
+            if let Some(schedule) = complete_by_beam(self.alloc, facts, fuel) {
+                return Some(schedule);
+            }
+            return self.complete_by_search(facts, self.room / 2);
+        }
+        if let Some(schedule) = self.complete_by_search(facts, self.room) {
+            return Some(schedule);
+        }
+        complete_by_beam(self.alloc, facts, fuel)
+    }
+
+    /// A schedule in which each read has the source that a search chose. `None` at once where not each operation could be
+    /// visited.
+    fn complete_by_search(&self, facts: &Facts, situations: usize) -> Option<Vec<u8>> {
+        let fuel = fuel_of_search(situations, facts.procs)?;
+        if fuel < u64::from(facts.ops) {
+            return None;
+        }
+        let mut search = Search::new(self.alloc, self.order(0)?)?;
+        search.settle_under_skews(fuel)?;
+        let mut facts = self.facts(0)?;
+        facts.take_over(&search.order.facts)?;
+        let mut walk = Walk::new(self.alloc, self.saturated(facts)?, self.patience())?;
+        walk.make_all()?;
+        self.schedule(0, &walk)
     }
 
     /// So many places of the earlier schedule, and then the walk.
@@ -135,10 +164,18 @@ impl Proposer<'_> {
         patience.saturating_add(LEAST_FUEL)
     }
 
+    /// What is known after so many places.
+    fn facts(&self, kept: usize) -> Option<Facts> {
+        let beginning = self.beginning(kept)?;
+        Facts::new(self.alloc, &beginning, self.sequences, self.lengths)
+    }
+
     /// What comes before what after so many places.
     fn order(&self, kept: usize) -> Option<Order> {
-        let beginning = self.beginning(kept)?;
-        let facts = Facts::new(self.alloc, &beginning, self.sequences, self.lengths)?;
+        self.saturated(self.facts(kept)?)
+    }
+
+    fn saturated(&self, facts: Facts) -> Option<Order> {
         let fuel = self.fuel(&facts);
         let mut order = Order::new(self.alloc, facts, fuel)?;
         order.spread()?;

@@ -1,15 +1,18 @@
 //! The writes of each value.
-use scm_clocks::{Numbering, Values};
+use crate::numbering::Numbering;
+use crate::values::Values;
+use crate::writes::count_below;
 use std::alloc::Global;
 
-/// For each value the operations that write it.
+/// For each value the operations that write it, in the order of their numbers.
 #[derive(Drop)]
-pub(crate) struct Writers {
+pub struct Writers {
     lists: Vec<Vec<u32>>,
 }
 
 impl Writers {
-    pub(crate) fn new(alloc: Global, numbering: &Numbering, values: &Values) -> Option<Writers> {
+    /// Of these operations.
+    pub fn new(alloc: Global, numbering: &Numbering, values: &Values) -> Option<Writers> {
         let mut writers = Writers {
             lists: Vec::new(alloc),
         };
@@ -30,7 +33,12 @@ impl Writers {
     }
 
     /// The operations that write this value.
-    pub(crate) fn of(&self, value: u32) -> Option<&[u32]> {
+    pub fn of(&self, value: u32) -> Option<&[u32]> {
         Some(self.lists.get(value as usize)?.as_slice())
+    }
+
+    /// How many of them have a number below `x`.
+    pub fn count(&self, value: u32, x: u32) -> Option<usize> {
+        Some(count_below(self.of(value)?, x))
     }
 }
