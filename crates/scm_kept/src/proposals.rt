@@ -84,7 +84,14 @@ fn of_size(rt: &impl Abort, alloc: Global, size: Size, seed: u64, accesses: u8) 
 }
 
 /// Whether a schedule is proposed for such a trace.
-fn decides(rt: &impl Abort, alloc: Global, size: Size, seed: u64, accesses: u8, room: usize) -> bool {
+fn decides(
+    rt: &impl Abort,
+    alloc: Global,
+    size: Size,
+    seed: u64,
+    accesses: u8,
+    room: usize,
+) -> bool {
     let sequences = of_size(rt, alloc, size, seed, accesses);
     let zeros = [Some(0), Some(0), Some(0)];
     is_decided(rt, alloc, &zeros, &sequences, room)
