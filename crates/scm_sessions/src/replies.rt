@@ -12,9 +12,9 @@ use std::io::Write;
 
 /// The reply to a line, and the name of the session that it goes to, where the line has one.
 #[derive(Drop, Debug)]
-pub(crate) struct Answer {
-    pub(crate) name: Option<Name>,
-    pub(crate) reply: Reply,
+pub struct Answer {
+    pub name: Option<Name>,
+    pub reply: Reply,
 }
 
 /// The name of a session as it stands in a reply.

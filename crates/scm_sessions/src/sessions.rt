@@ -1,11 +1,17 @@
 //! The state of a script run: the names of the sessions, and the book.
-ghost use Rattle.std.specs.Prelude.{◌≡◌, ◌⊎◌, ◌≤◌, [], vec_capacity, true, false, IfOk, IfErr, OnErr};
+ghost use Rattle.std.specs.Prelude.{◌≡◌, ◌⊎◌, ◌≤◌, [], vec_capacity, true, false, option_copied, IfOk, IfErr, OnErr};
 ghost use Rattle.scm_sequences.specs.declared.refusal.Refusal.TheVariants.{NoMemory, TooManySessions};
 ghost use Rattle.scm_sequences.specs.declared.limits.TheConstants.{MOST_SESSIONS};
 ghost use Rattle.scm_book.specs.Journal.{IsLegalBook};
-ghost use Rattle.scm_sessions.specs.Script.{script_state, session_of, with_name, is_turned_away};
+ghost use Rattle.scm_book.specs.Calls.{call_data, reply_data};
+ghost use Rattle.scm_sessions.specs.Lines.{line_given};
+ghost use Rattle.scm_sessions.specs.Asking.{asked_by, good};
+ghost use Rattle.scm_sessions.specs.Exchanges.{Answers};
+ghost use Rattle.scm_sessions.specs.Answering.{AnswersWith};
+ghost use Rattle.scm_sessions.specs.Script.{script_state, session_of, with_name, is_turned_away, AnswersCall};
 
-use crate::answers::MakeCalls;
+use crate::answers::{MakeCalls, answer_line};
+use crate::replies::Answer;
 use indexmap::IndexSet;
 use scm_book::{Book, Call, Reply};
 use scm_cells::Name;
@@ -15,7 +21,7 @@ use std::marker::Model;
 
 /// The names of the sessions in the order of their entry, and the book. A name's place is the number of its session.
 #[derive(Drop)]
-pub(crate) struct Sessions {
+pub struct Sessions {
     names: IndexSet<Name>,
     book: Book,
 }
@@ -34,7 +40,7 @@ impl Model for Sessions {
 
 impl Sessions {
     /// No session has entered.
-    pub(crate) fn new(alloc: Global, book: Book) -> Sessions
+    pub fn new(alloc: Global, book: Book) -> Sessions
         ensures { result ≡ script_state [] book }
     {
         Sessions {
@@ -52,7 +58,7 @@ impl Sessions {
 
     /// The number of the session of this name, which enters where it is new. Refused `TooManySessions` where all
     /// sessions have entered, or `NoMemory`; unchanged after a refusal.
-    fn enter(&mut self, name: Name) -> Result<u16, Refusal>
+    pub fn enter(&mut self, name: Name) -> Result<u16, Refusal>
         ensures ok { IfOk result (λ session. (session ≡ session_of self.old.names name)
             × (is_turned_away self.old.names name ≡ false) × (self.new.names ≡ with_name self.old.names name)) }
         ensures err { IfErr result (λ refusal.
@@ -80,6 +86,22 @@ impl Sessions {
         let Sessions { names, book } = self;
         room.extend_from_slice(names.as_slice()).unwrap();
         (book, room)
+    }
+}
+
+impl Sessions {
+    /// Answers a line; `None` stands for one that is too long. The answer, where the line has one.
+    pub fn answer(&mut self, alloc: Global, line: Option<&[u8]>) -> Option<Answer>
+        ensures { AnswersWith AnswersCall self.old (asked_by (line_given (option_copied line.entry))) result self.new }
+    {
+        answer_line(alloc, self, line)
+    }
+
+    /// Makes a call of the session of this name, which enters where it is new.
+    pub fn call_of(&mut self, name: Name, call: Call) -> Reply
+        ensures { Answers AnswersCall self.old (good name (call_data call)) (reply_data result) self.new }
+    {
+        self.call(name, call)
     }
 }
 
