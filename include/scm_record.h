@@ -7,6 +7,8 @@
  *   status = scm_record_write(stdout, "a", "t", 1000000);
  *   if (status != SCM_RECORD_DONE) fprintf(stderr, "%s\n", scm_record_message(status));
  *
+ * Or scm_record_ask, with scm.h before this header, answers without a script.
+ *
  * C11 or C++17, GCC or Clang, on a system where a weak symbol of several files is one (ELF, Mach-O).
  *
  * What is recorded. Aligned accesses of 4 or 8 bytes: in C by the macros scm_atomic_.., named like those of <stdatomic.h>,
@@ -84,7 +86,7 @@ static inline const char *scm_record_message(int status) {
       "more than 64 cells were accessed",
       "an access isn't an aligned one of 4 or 8 bytes, or overlaps another cell",
       "nothing was recorded",
-      "writing failed",
+      "writing failed, or the monitor refused a line",
   };
   return status >= 0 && status < (int)(sizeof messages / sizeof *messages) ? messages[status] : "no such status";
 }
@@ -552,6 +554,26 @@ static inline int scm_record_write(FILE *out, const char *session, const char *t
     return SCM_RECORD_WRITE_FAILED;
   return status;
 }
+
+#ifdef SCM_H /* where scm.h was included before: no script is written, the monitor answers at once */
+
+static inline bool scm_record_say(void *monitor, const char *line, size_t length) {
+  uint8_t reply[128];
+  size_t needed = 0;
+  return scm_line((scm_monitor *)monitor, (const uint8_t *)line, length, reply, sizeof reply, &needed) == SCM_DONE && needed > 4 &&
+         memcmp(reply + needed - 4, " ok\n", 4) == 0;
+}
+
+/* Reports the recording to a monitor as the trace of this name, and asks. The verdict is a code of scm.h, and the trace stays open;
+ * where a line is refused (SCM_RECORD_WRITE_FAILED) scm_text has the reply. */
+static inline int scm_record_ask(scm_monitor *monitor, const char *session, const char *trace, uint64_t budget, uint32_t *verdict) {
+  int status = scm_record_hand_over(scm_record_say, monitor, session, trace, budget);
+  if (status == SCM_RECORD_DONE)
+    *verdict = scm_ask(monitor, scm_number(monitor, session), scm_number(monitor, trace));
+  return status;
+}
+
+#endif
 
 /* ---- Accesses */
 

@@ -3,6 +3,7 @@ import hashlib
 import os
 
 PROGRAM = "scm_monitor"
+LIBRARY = "scm_embed"
 COMPILED_FROM = ("src",)  # what a program is compiled from; a proof reads the contracts' definitions and the proofs too
 PROVED_FROM = ("src", "specs", "proofs")
 
@@ -28,10 +29,13 @@ def below(crates, crate):
     return found
 
 
+def crates_of(top, crate):
+    """The crates that this one is made of, lowest first."""
+    return [*below(read_crates(top), crate), crate]
+
+
 def crates_of_program(top):
-    """The crates that the program is made of, lowest first."""
-    crates = read_crates(top)
-    return [*below(crates, PROGRAM), PROGRAM]
+    return crates_of(top, PROGRAM)
 
 
 def files_of(top, crate, parts):
@@ -41,9 +45,9 @@ def files_of(top, crate, parts):
             yield from (f"{folder}/{file}" for file in sorted(files))
 
 
-def sum_of(top, parts):
-    """A sum of all files in these parts of the program's crates, and of their lines in crates.txt."""
-    crates, lines, found = crates_of_program(top), lines_of_crates(top), hashlib.sha256()
+def sum_of(top, parts, crate=PROGRAM):
+    """A sum of all files in these parts of the crates that this one is made of, and of their lines in crates.txt."""
+    crates, lines, found = crates_of(top, crate), lines_of_crates(top), hashlib.sha256()
     found.update("\n".join(lines[crate] for crate in crates).encode())
     for path in (it for crate in crates for it in files_of(top, crate, parts)):
         with open(path, "rb") as file:
@@ -54,16 +58,18 @@ def sum_of(top, parts):
 
 
 class Built:
-    """A program that was built here: out/WAY/scm_monitor, and beside it the sum of what it was built from."""
+    """A program that was built here, out/WAY/scm_monitor, or the library, out/WAY/libscm.a, and beside it the sum of what it was
+    built from."""
 
-    def __init__(self, top, way, parts):
-        self.top, self.parts = top, parts
-        self.program, self.sum = f"{top}/out/{way}/{PROGRAM}", f"{top}/out/{way}/sum"
+    def __init__(self, top, way, parts, crate=PROGRAM):
+        self.top, self.parts, self.crate = top, parts, crate
+        name, tail = (PROGRAM, "") if crate == PROGRAM else ("libscm.a", "-of-library")
+        self.program, self.sum = f"{top}/out/{way}/{name}", f"{top}/out/{way}/sum{tail}"
 
     def is_current(self):
         try:
             with open(self.sum, encoding="utf-8") as kept:
-                return os.access(self.program, os.X_OK) and kept.read() == sum_of(self.top, self.parts)
+                return os.path.exists(self.program) and kept.read() == sum_of(self.top, self.parts, self.crate)
         except OSError:
             return False
 
@@ -81,9 +87,9 @@ class Built:
             kept.write(sum_of_sources)
 
 
-def proved(top):
-    return Built(top, "proved", PROVED_FROM)
+def proved(top, crate=PROGRAM):
+    return Built(top, "proved", PROVED_FROM, crate)
 
 
-def compiled(top):
-    return Built(top, "compiled", COMPILED_FROM)
+def compiled(top, crate=PROGRAM):
+    return Built(top, "compiled", COMPILED_FROM, crate)

@@ -1,6 +1,6 @@
 -- What the exported calls do to what a handle holds.
 use Rattle.std.specs.Prelude.{ℕ, ◌≡◌, ◌≢◌, ◌<◌, ◌≤◌, List, length, take, Option, None, Some, MatchOption, IsSomeAnd}
-use Rattle.scm_embed.specs.declared.codes.TheConstants.{DONE, NO_ROOM, CLOSED, BAD_NUMBER}
+use Rattle.scm_embed.specs.declared.codes.TheConstants.{DONE, NO_ROOM, CLOSED}
 use Rattle.scm_embed.specs.declared.state.State.{State}
 use Rattle.scm_embed.specs.Calls.{name_at, CallsAt, ReportsAt}
 use Rattle.scm_sessions.specs.Asking.{asked_by}

@@ -1,4 +1,4 @@
-//! The monitor as a static library for C.
+//! The monitor as a static library for C: `include/scm.h` tells its callers what each export answers, and what they owe.
 #![tactic(auto)]
 
 mod calls;
@@ -78,6 +78,7 @@ fn copy_text(state: &mut State, out: &mut [u8], needed: &mut usize) -> u32
     DONE
 }
 
+/// Makes a monitor that no session has entered, where there is none.
 #[unsafe(no_mangle)]
 pub extern "C" fn scm_make(alloc: Global, m: &mut Monitor) -> u32
     ensures made { result ≡ DONE → IsSomeAnd m.new.slot.value (λ state.
@@ -96,6 +97,7 @@ pub extern "C" fn scm_make(alloc: Global, m: &mut Monitor) -> u32
     }
 }
 
+/// Frees the monitor, if there is one.
 #[unsafe(no_mangle)]
 pub extern "C" fn scm_free(alloc: Global, m: &mut Monitor)
     ensures { m.new.slot.value ≡ None }
@@ -103,6 +105,7 @@ pub extern "C" fn scm_free(alloc: Global, m: &mut Monitor)
     drop(m.take(alloc));
 }
 
+/// Answers a line and copies its reply. Where the room is too small, or memory for the text is refused, `scm_text` gives it.
 #[unsafe(no_mangle)]
 pub extern "C" fn scm_line(
     alloc: Global,
@@ -123,6 +126,7 @@ pub extern "C" fn scm_line(
     code
 }
 
+/// Copies the text of the last answer.
 #[unsafe(no_mangle)]
 pub extern "C" fn scm_text(
     alloc: Global,
@@ -141,6 +145,7 @@ pub extern "C" fn scm_text(
     code
 }
 
+/// Gives a name its number.
 #[unsafe(no_mangle)]
 pub extern "C" fn scm_name(alloc: Global, m: &mut Monitor, word: &[u8], number: &mut usize) -> u32
     ensures { NamesHeld m.old.slot.value word.now number.new result m.new.slot.value }
@@ -159,6 +164,7 @@ pub extern "C" fn scm_name(alloc: Global, m: &mut Monitor, word: &[u8], number: 
     }
 }
 
+/// Reports an access: session, trace and cell by the numbers of their names, the access by that of its kind.
 #[unsafe(no_mangle)]
 pub extern "C" fn scm_report(
     alloc: Global,
@@ -181,6 +187,7 @@ pub extern "C" fn scm_report(
     code
 }
 
+/// Makes another call about a trace, of the kind of this number.
 #[unsafe(no_mangle)]
 pub extern "C" fn scm_call(
     alloc: Global,
