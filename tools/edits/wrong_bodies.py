@@ -59,7 +59,7 @@ def owner_of(text, at):
     if not found or "\n}" in text[found[-1].end():at]:
         return ""
     trait, argument, owner = found[-1].groups()
-    return owner + (trait or "") + (argument or "").strip("<>")
+    return owner[0].upper() + owner[1:] + (trait or "") + (argument or "").strip("<>")
 
 
 def functions_of(file, text):
