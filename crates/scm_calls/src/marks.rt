@@ -8,7 +8,8 @@ use std::process::Abort;
 fn set(rt: &impl Abort, alloc: Global, many: usize) -> Marks {
     let mut marks = Marks::new(alloc);
     for number in 0..many {
-        let lengths = Lengths::new(alloc, &[number as u32, 7]);
+        let first = u32::try_from(number).expect(rt, "few marks");
+        let lengths = Lengths::new(alloc, &[first, 7]);
         assert!(rt; marks.set(lengths) == Ok(number as u64));
     }
     marks
