@@ -1,19 +1,20 @@
 -- The laws of unset cells: how a front fixes values place by place, and that the values that it fixes are just those
 -- under which it stays legal.
-use Rattle.std.proofs.Common.{ℕ, ◌≡◌, ◌≢◌, ◌<◌, ◌≤◌, ◌↔◌, Bool, true, false, List, [], ◌∷◌, length, filter_map, Option, None, Some, is_none, IfSome, IsTrue, All, get_or, if◌then◌else◌, refl, sym, ap, ap₂, ◌∙◌, subst, ⊎_elim, arith}
+use Rattle.std.proofs.Common.{ℕ, ◌≡◌, ◌≢◌, ◌<◌, ◌≤◌, ◌^◌, ◌↔◌, Bool, true, false, List, [], ◌∷◌, length, filter_map, Option, None, Some, is_none, IfSome, IsTrue, All, get_or, if◌then◌else◌, refl, sym, ap, ap₂, ◌∙◌, subst, ⊎_elim, arith}
 use Rattle.std.specs.Option.{option_or, option_map, option_and_then, unwrap_or}
 use Rattle.std.specs.List.{range_with_len, cons_option}
 use Rattle.std.proofs.lemmas.Bool.{cases_eq, cases_lt, eq-eqb, ne_eqb, eqb-true}
 use Rattle.std.proofs.lemmas.List.{get_or_past}
+use Rattle.std.proofs.lemmas.Nat.{pow_pos}
 use Rattle.std.proofs.lemmas.List.FromFn.{length-range_with_len, get_or-range_with_len, length-map-range_with_len, get_or-map-range_with_len}
 use Rattle.std.proofs.lemmas.List.Elements.{All-nil, All-cons, All-head, All-tail}
 use Rattle.scm_sequences.specs.declared.op.Op.{Op}
 use Rattle.scm_sequences.specs.declared.op.Op.TheVariants.{R, W, Rw}
 use Rattle.scm_sequences.specs.Ops.{cell_of, read_of, written_to, finds}
 use Rattle.scm_sequences.specs.Traces.{Trace, trace_of, initial_of}
-use Rattle.scm_sequences.specs.Fronts.{following, last_written, first_read, value_before, IsLegal, IsConsistent}
+use Rattle.scm_sequences.specs.Fronts.{count_in, following, last_written, first_read, value_before, IsLegal, IsConsistent}
 use Rattle.scm_sequences.specs.FrontLaws.{last_written-nil, last_written-step, first_read-nil, first_read-step, value_before-is, IsLegal-start, IsLegal-step, IsLegal-earlier, IsLegal-operation, IsLegal-finds, finds-same}
-use Rattle.scm_sequences.specs.FixedValues.{unwritten_read, fixed_value, fixed_values, given, Agrees}
+use Rattle.scm_sequences.specs.FixedValues.{unwritten_read, fixed_value, fixed_values, given, Agrees, ReadsFit, ChosenFit}
 
 -- ---- place by place
 
@@ -320,4 +321,43 @@ IsConsistent-given_some t = (
     schedule = some.1.schedule;
     is_schedule = record { legal = ((IsLegal-given t some.1.schedule some.0).0 some.1.is_schedule.legal).0; whole = some.1.is_schedule.whole };
   },
+)
+
+-- ---- choices from the widths of the cells
+
+-- what a front reads of a cell that nothing wrote is what some operation reads of it
+unwritten_read-fits : (t : Trace) (bits : ℕ → ℕ) → ReadsFit t bits → (front : List ℕ) (c : ℕ) → IfSome (unwritten_read t front c) (λ value. value < 2 ^ bits c)
+unwritten_read-fits t bits fit [] c = subst (λ o. IfSome o (λ value. value < 2 ^ bits c)) (sym (unwritten_read-nil t c)) tt
+unwritten_read-fits t bits fit (p ∷ earlier) c =
+    subst (λ o. IfSome o (λ value. value < 2 ^ bits c)) (sym (unwritten_read-step t p earlier c))
+    (by (unwritten_read t earlier c) (is_none (last_written t earlier c)) (option_and_then (λ op. read_of op c) (following t earlier p)) (unwritten_read-fits t bits fit earlier c) (fit p (count_in earlier p) c)) where
+      by : (before : Option ℕ) (is_first : Bool) (read : Option ℕ) → IfSome before (λ value. value < 2 ^ bits c) → IfSome read (λ value. value < 2 ^ bits c)
+          → IfSome (option_or before (if is_first then read else None)) (λ value. value < 2 ^ bits c)
+      by (Some v) is_first read before_fits read_fits = before_fits
+      by None true read before_fits read_fits = read_fits
+      by None false read before_fits read_fits = tt
+
+-- so what a front fixes fits, and 0 does for every other cell
+some_choice-fits : (t : Trace) (bits : ℕ → ℕ) → ReadsFit t bits → (front : List ℕ) → ChosenFit (some_choice t front).0 bits
+unfolding some_choice
+some_choice-fits t bits fit front c = by (is_none (initial_of t c)) (unwritten_read t front c) (unwritten_read-fits t bits fit front c) where
+  by : (is_unset : Bool) (read : Option ℕ) → IfSome read (λ value. value < 2 ^ bits c) → unwrap_or (if is_unset then read else None) 0 < 2 ^ bits c
+  by true (Some v) fits = fits
+  by true None fits = pow_pos (bits c)
+  by false read fits = pow_pos (bits c)
+
+-- where what is read fits the cells, a front is legal exactly where it is legal under some choice from their widths
+pub IsLegal-given_in_width : (t : Trace) (bits : ℕ → ℕ) → ReadsFit t bits → (front : List ℕ) → IsLegal t front ↔ ((chosen : ℕ → ℕ) × ChosenFit chosen bits × IsLegal (given t chosen) front)
+IsLegal-given_in_width t bits fit front = (
+  λ legal. let some = some_choice t front in (some.0, some_choice-fits t bits fit front, (IsLegal-given t front some.0).1 (legal, some.1)),
+  λ some. ((IsLegal-given t front some.0).0 some.2).0,
+)
+
+-- and it is consistent exactly where it is under such a choice
+pub IsConsistent-given_in_width : (t : Trace) (bits : ℕ → ℕ) → ReadsFit t bits → IsConsistent t ↔ ((chosen : ℕ → ℕ) × ChosenFit chosen bits × IsConsistent (given t chosen))
+IsConsistent-given_in_width t bits fit = (
+  λ consistent.
+      let some = (IsLegal-given_in_width t bits fit consistent.schedule).0 consistent.is_schedule.legal in
+      (some.0, some.1, record { schedule = consistent.schedule; is_schedule = record { legal = some.2; whole = consistent.is_schedule.whole } }),
+  λ some. (IsConsistent-given_some t).1 (some.0, some.2),
 )

@@ -2,10 +2,11 @@
 -- (This project's own.)
 --
 -- Such a cell is unset: its first contents are open. Fronts are written newest first.
-use Rattle.std.specs.Prelude.{ℕ, ◌≡◌, List, [], ◌∷◌, Option, None, Some, is_none, if◌then◌else◌, map, filter_map, length, All}
+use Rattle.std.specs.Prelude.{ℕ, ◌≡◌, ◌<◌, ◌^◌, List, [], ◌∷◌, Option, None, Some, IfSome, is_none, if◌then◌else◌, map, filter_map, length, All}
 use Rattle.std.specs.Option.{option_or, option_map, option_and_then, unwrap_or}
 use Rattle.std.specs.List.{range_with_len}
 use Rattle.scm_sequences.specs.Ops.{read_of}
+use Rattle.scm_sequences.specs.Sequences.{operation}
 use Rattle.scm_sequences.specs.Traces.{Trace, trace_of, initial_of}
 use Rattle.scm_sequences.specs.Fronts.{following, last_written}
 
@@ -32,3 +33,12 @@ given t chosen = trace_of (map (λ c. Some (unwrap_or (initial_of t c) (chosen c
 -- each of these cells has the value beside it chosen for it
 abbrev pub Agrees : (ℕ → ℕ) → List (ℕ × ℕ) → Type 0
 Agrees chosen values = All (λ item. chosen item.0 ≡ item.1) values
+
+-- the cells have so many bits, and what an operation reads of one has no more
+abbrev pub ReadsFit : Trace → (ℕ → ℕ) → Type 0
+ReadsFit t bits =
+    (p k c : ℕ) → IfSome (option_and_then (λ op. read_of op c) (operation t.sequences p k)) (λ value. value < 2 ^ bits c)
+
+-- what is chosen for a cell has no more either
+abbrev pub ChosenFit : (ℕ → ℕ) → (ℕ → ℕ) → Type 0
+ChosenFit chosen bits = (c : ℕ) → chosen c < 2 ^ bits c
