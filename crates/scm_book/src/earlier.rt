@@ -1,5 +1,5 @@
 //! What is kept for the next proposal.
-ghost use Rattle.std.specs.Prelude.{◌≤◌, length, sum};
+ghost use Rattle.std.specs.Prelude.{◌≡◌, ◌≤◌, [], length, max, sum};
 
 use crate::Reply;
 use scm_sequences::Lengths;
@@ -28,7 +28,9 @@ const PART: u64 = 64;
 
 impl Earlier {
     /// No schedule and no operation yet.
-    pub(crate) fn new(alloc: Global) -> Earlier {
+    pub(crate) fn new(alloc: Global) -> Earlier
+        ensures { result.schedule.items ≡ [] }
+    {
         Earlier {
             schedule: Vec::new(alloc),
             reported: Some(Vec::new(alloc)),
@@ -68,13 +70,17 @@ impl Earlier {
     }
 
     /// An operation of this process was reported.
-    pub(crate) fn report(&mut self, process: usize) {
+    pub(crate) fn report(&mut self, process: usize)
+        ensures { self.new.schedule ≡ self.old.schedule }
+    {
         if self.keep_report(process).is_none() {
             self.reported = None;
         }
     }
 
-    fn keep_report(&mut self, process: usize) -> Option<()> {
+    fn keep_report(&mut self, process: usize) -> Option<()>
+        ensures { self.new.schedule ≡ self.old.schedule }
+    {
         let place = u8::try_from(process).ok()?;
         self.reported.as_mut()?.push(place).ok()
     }
@@ -92,15 +98,19 @@ impl Earlier {
     }
 
     /// What comes of the reply to a question about the trace cut to these lengths.
-    pub(crate) fn learn(&mut self, reply: &Reply, lengths: &Lengths) {
+    pub(crate) fn learn(&mut self, reply: &Reply, lengths: &Lengths)
+        ensures { length self.new.schedule.items ≤ max (length self.old.schedule.items) (sum lengths.now) }
+    {
         match reply {
-            Reply::Consistent { schedule, .. } => self.keep(schedule),
+            Reply::Consistent { schedule, .. } => self.keep(schedule, lengths),
             _ => self.fail(lengths),
         }
     }
 
     /// No schedule was found at these lengths.
-    pub(crate) fn fail(&mut self, lengths: &Lengths) {
+    pub(crate) fn fail(&mut self, lengths: &Lengths)
+        ensures { self.new.schedule ≡ self.old.schedule }
+    {
         let operations = operations_in(lengths);
         if self.may_try_whole(lengths) {
             self.failed_whole = Some(operations);
@@ -116,9 +126,12 @@ impl Earlier {
         }
     }
 
-    /// Keeps a copy of a schedule that isn't shorter, where there is memory for it.
-    pub(crate) fn keep(&mut self, schedule: &[u8]) {
-        if schedule.len() < self.schedule.len() {
+    /// Keeps a copy of a schedule of the trace cut to these lengths that isn't shorter, where there is memory for it.
+    pub(crate) fn keep(&mut self, schedule: &[u8], lengths: &Lengths)
+        ensures { length self.new.schedule.items ≤ max (length self.old.schedule.items) (sum lengths.now) }
+    {
+        let fits = schedule.len() as u64 <= operations_in(lengths);
+        if !fits || schedule.len() < self.schedule.len() {
             return;
         }
         if let Ok(copy) = Vec::from_slice(*self.schedule.allocator(), schedule) {
@@ -144,7 +157,9 @@ impl Earlier {
 
     /// Takes the schedule of another one, which began as a copy of this one, where it isn't shorter, as far as the trace has
     /// as many operations; and where nothing changed since, what failed.
-    pub(crate) fn take_back(&mut self, other: &mut Earlier, present: &Lengths, is_same: bool) {
+    pub(crate) fn take_back(&mut self, other: &mut Earlier, present: &Lengths, is_same: bool)
+        ensures { length self.new.schedule.items ≤ max (length self.old.schedule.items) (sum present.now) }
+    {
         other.schedule.truncate(operations_in(present) as usize);
         if other.schedule.len() >= self.schedule.len() {
             mem::swap(&mut self.schedule, &mut other.schedule);
@@ -156,7 +171,9 @@ impl Earlier {
     }
 
     /// A proposal may find more than before.
-    pub(crate) fn retry(&mut self) {
+    pub(crate) fn retry(&mut self)
+        ensures { self.new.schedule ≡ self.old.schedule }
+    {
         self.failed = None;
         self.failed_whole = None;
     }

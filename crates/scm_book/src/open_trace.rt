@@ -44,13 +44,15 @@ pub(crate) struct OpenTrace {
     marks: Marks,
     // What questions and outcomes found out stays for the next questions.
     reach: Reach,
-    // So do the last schedule and the order of the reports, for their proposals.
+    // So do the last schedule, which is no longer than the trace, and the order of the reports, for their proposals.
     earlier: Earlier,
     // What workers have to know of it.
     attention: Attention,
 }
 
 impl Model for OpenTrace {
+    ghost use Rattle.std.specs.Prelude.{◌≤◌, length, sum};
+    ghost use Rattle.scm_sequences.specs.Sequences.{lengths_of};
     ghost use Rattle.scm_book.specs.Sound.{IsSoundTrace, IsKeptFor};
     ghost use Rattle.scm_book.specs.Sets.{KeptTrace};
 
@@ -58,7 +60,7 @@ impl Model for OpenTrace {
 
     ghost view = { λ t. record { state = record { owner = t.owner; budget = t.budget; cells = t.cells; sequences = t.sequences; claimants = t.claimants.items; marks = t.marks }; set = t.reach } };
 
-    ghost invariant = { λ t. IsSoundTrace (record { owner = t.owner; budget = t.budget; cells = t.cells; sequences = t.sequences; claimants = t.claimants.items; marks = t.marks }) × IsKeptFor (record { owner = t.owner; budget = t.budget; cells = t.cells; sequences = t.sequences; claimants = t.claimants.items; marks = t.marks }) t.reach };
+    ghost invariant = { λ t. IsSoundTrace (record { owner = t.owner; budget = t.budget; cells = t.cells; sequences = t.sequences; claimants = t.claimants.items; marks = t.marks }) × IsKeptFor (record { owner = t.owner; budget = t.budget; cells = t.cells; sequences = t.sequences; claimants = t.claimants.items; marks = t.marks }) t.reach × (length t.earlier.schedule.items ≤ sum (lengths_of t.sequences)) };
 }
 
 impl OpenTrace {

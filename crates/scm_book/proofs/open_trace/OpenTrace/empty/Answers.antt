@@ -16,4 +16,5 @@ invariant_of-result c =
         kept = c.in_ok-reach.ensures.kept (trace_of (initials_of c.args.cells) c.in_ok-sequences.sequences) refl refl;
         few = omega (arith, c.in_ok-reach.ensures.one, c.requires.least);
       },
+      search rules,
     )

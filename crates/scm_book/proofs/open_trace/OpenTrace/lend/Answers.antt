@@ -31,4 +31,5 @@ invariant_of-self c =
       subst (λ (set : Kept). IsKeptFor state set) (sym c.replace.ensures.after)
           (IsKeptFor-start state c.in-Ok-new.start c.self.invariant.0 c.in-Ok-new.ensures.initials c.in-Ok-new.ensures.one
           (c.in-Ok-new.ensures.kept (trace_of (initials_of c.self.inside.cells) c.self.inside.sequences) refl refl)),
+      c.self.invariant.2,
     )

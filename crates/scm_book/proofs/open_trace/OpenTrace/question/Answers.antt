@@ -1,10 +1,12 @@
-use Rattle.std.proofs.Common.{◌≡◌, ◌+◌, ◌<◌, ◌^◌, None, Ok, sym, subst}
+use Rattle.std.proofs.Common.{◌≡◌, ◌+◌, ◌<◌, ◌^◌, length, sum, None, Ok, refl, sym, subst, rules}
+use Rattle.scm_sequences.specs.Sequences.{lengths_of}
 use Rattle.scm_book.specs.Asking.{AsksFor}
 use Rattle.scm_book.specs.Calls.{reply_data}
 use Rattle.scm_book.specs.Machine.{TraceState}
 use Rattle.scm_book.specs.Refusals.{question_cause}
 use Rattle.scm_book.specs.Sets.{KeptTrace, asked_lengths, most_steps}
-use Rattle.scm_book.proofs.AskedLengths.{asked, cause_none, can_ask, asks_for}
+use Rattle.scm_book.proofs.AskedLengths.{asked, cause_none, can_ask, asks_for, IsWithin-asked}
+use Rattle.scm_book.proofs.EarlierLaws.{sum-kept}
 use Rattle.scm_book.proofs.open_trace.OpenTrace.question.Goals as goal
 
 pub answer-requires : goal.answer-requires
@@ -21,4 +23,14 @@ returns-clause-ok c =
     subst (λ (k : KeptTrace). (question_cause k.state c.args.mark ≡ None) × AsksFor c.args.explains k.state c.args.mark (reply_data c.in_ok-reply.reply)) c.self.view_is (
       cause_none state c.args.mark c.in_ok-lengths.lengths.now is,
       asks_for state c.args.mark c.limit.result c.args.steps.now c.in_ok-lengths.lengths.now c.self.inside.reach c.limit.ensures.limit is c.args.explains (reply_data c.in_ok-reply.reply) c.in_ok-reply.ensures.fits c.in_ok-reply.ensures.wanted,
+    )
+
+pub invariant_of-self-2 : goal.invariant_of-self-2
+invariant_of-self-2 c =
+    let state : TraceState = record { owner = c.self.inside.owner; budget = c.self.inside.budget; cells = c.self.inside.cells; sequences = c.self.inside.sequences; claimants = c.self.inside.claimants.items; marks = c.self.inside.marks } in
+    let is : asked_lengths state c.args.mark ≡ Ok c.in_ok-lengths.lengths.now = asked state c.args.mark c.lengths-present.result (Ok c.in_ok-lengths.lengths.now) c.lengths-present.ensures c.in_ok-lengths.ensures in (
+      c.self.invariant.0,
+      search rules,
+      sum-kept (length c.self.inside.earlier.schedule.items) (length c.learn.new.self.schedule.items) (sum (lengths_of c.self.inside.sequences)) c.in_ok-lengths.lengths.now (lengths_of c.self.inside.sequences) c.self.invariant.2 c.learn.ensures
+          (IsWithin-asked state c.args.mark c.in_ok-lengths.lengths.now c.self.invariant.0 is) refl,
     )
