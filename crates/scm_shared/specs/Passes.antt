@@ -1,5 +1,5 @@
 -- What a pass knows of the shared book's history, and what a call, `front` and `meet` add to it.
-use Rattle.std.specs.Prelude.{ℕ, ◌≡◌, ◌<◌, List, [], ◌∷◌, ◌++◌, length}
+use Rattle.std.specs.Prelude.{ℕ, ◌≡◌, ◌<◌, ◌≤◌, List, [], ◌∷◌, ◌++◌, length}
 use mathlib.Core.List.{IsPrefix}
 use Rattle.scm_sequences.specs.declared.limits.TheConstants.{MOST_ENTRIES}
 use Rattle.scm_book.specs.Calls.{CallData, ReplyData, EntryData}
@@ -26,6 +26,10 @@ newcomer number = known number [] [] 0
 -- the same pass, which was told that the history has this length
 abbrev pub at_front : ℕ → Known → Known
 at_front found pass = known pass.number pass.made pass.seen found
+
+-- the pass knows that the journal of its book has reached this length: what a pass was told is never more, as each audit finds
+abbrev pub HasReached : Known → ℕ → Type 0
+HasReached pass n = n ≤ pass.front
 
 -- the pass made a call. It has seen a legal history that ends with the call and its reply. This history begins with all that
 -- the pass had seen, is longer than it was told, and has of its session just the calls that the pass made

@@ -1,6 +1,8 @@
 //! The end of a shared book: what its passes kept, against its journal.
-ghost use Rattle.std.specs.Prelude.{◌≡◌, ◌+◌, ◌<◌, ◌==◌, ◌↔◌, true, All, IsTrue, length, map, sum_by, vec_len};
+ghost use Rattle.std.specs.Prelude.{◌≡◌, ◌+◌, ◌<◌, ◌≤◌, ◌==◌, ◌↔◌, true, All, IsTrue, length, map, sum_by, vec_len};
 ghost use Rattle.std.specs.List.{list_all, list_any};
+ghost use Rattle.scm_sequences.specs.declared.limits.TheConstants.{MOST_SESSIONS};
+ghost use Rattle.scm_results.specs.declared.limits.TheConstants.{MOST_TALLIES};
 ghost use Rattle.scm_results.specs.Tallies.{AddUpTo};
 ghost use Rattle.scm_book.specs.Calls.{entry_data};
 ghost use Rattle.scm_book.specs.Journal.{IsLegalBook};
@@ -95,7 +97,9 @@ impl<B: BookNaming> Desk<B> {
     pub(crate) fn audit(self, hall: &Hall<B>, passes: Vec<Pass<B>>, tallies: Vec<Tally<B>>) -> Audit
         ensures book { result.book ≡ self.book }
         ensures entered { result.entered ≡ self.entered }
+        ensures most_entered { result.entered ≤ MOST_SESSIONS }
         ensures tallies { result.tallies ≡ self.totals.given }
+        ensures most_tallies { result.tallies ≤ MOST_TALLIES }
         ensures legal { IsLegalBook result.book }
         ensures fits { All (λ pass. Fits result.book.journal pass) passes.items }
         ensures numbers { All (λ pass. pass.number < result.entered) passes.items }
