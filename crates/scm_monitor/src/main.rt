@@ -1,11 +1,11 @@
 //! The program: it reads a script from standard input and writes the replies to standard output.
 #![tactic(auto)]
 
-ghost use Rattle.std.specs.Prelude.{◌≡◌, false, IsTrue};
-ghost use Rattle.scm_sessions.specs.JournalText.{AreNamed};
+ghost use Rattle.std.specs.Prelude.{◌≡◌, false};
 ghost use Rattle.scm_sessions.specs.Ports.{has_failed};
 
 mod command_line;
+mod ending;
 mod fault;
 mod settings;
 mod switches;
@@ -14,11 +14,12 @@ mod words;
 use clap::Error;
 use clap::error::ErrorKind;
 use command_line::options;
+use ending::{AUDIT_STATUS, end_run, end_status};
 use fault::{fault_status, fault_text};
 use scm_book::Book;
 use scm_expand::FreeGate;
 use scm_sessions::{
-    Ended, Findings, Port, RunFault, run_each, run_script, run_with_workers, write_journal,
+    Findings, Port, RunFault, run_each, run_script, run_with_workers, write_journal,
 };
 use scm_shared::BookToken;
 use settings::Options;
@@ -33,9 +34,6 @@ use words::read_words;
 
 /// The exit status of a command line that is refused.
 const USAGE_STATUS: u8 = 2;
-
-/// The exit status where the audit of a run beside workers says that the journal isn't what the sessions were answered.
-const AUDIT_STATUS: u8 = 7;
 
 /// How many bytes of replies are gathered for one write.
 const WRITTEN_AT_ONCE: usize = 65_536;
@@ -118,25 +116,25 @@ fn run_between<H: Eprint + AllocGlobal + Threads + Wait + Sync, R: Read, W: Writ
     requires writes { has_failed writer.old ≡ false }
 {
     let mut findings = Findings::new();
-    let agreed = if options.each {
+    let status = if options.each {
         run_apart(rt, options, reader, writer, &mut findings)?
     } else if options.workers == 0 {
-        run_alone(rt.alloc(), options, reader, writer, &mut findings)?;
-        true
+        run_alone(rt.alloc(), options, reader, writer, &mut findings)?
     } else {
         run_beside(rt, options, reader, writer, &mut findings)?
     };
-    if !agreed {
-        let _ = eprintln!(rt; "scm_monitor: the journal is not what the sessions were answered");
-        return Ok(ExitCode::from(AUDIT_STATUS));
-    }
-    Ok(end(rt, options, &findings))
+    tell(rt, options, status, &findings);
+    Ok(ExitCode::from(status))
 }
 
-// The exit status of a script that was run whole: what was found where that is asked for.
-fn end(rt: &impl Eprint, options: Options, findings: &Findings) -> ExitCode {
+// Says on standard error that the audit disagreed, or else, where a check is asked for, which line was refused first.
+fn tell(rt: &impl Eprint, options: Options, status: u8, findings: &Findings) {
+    if status == AUDIT_STATUS {
+        let _ = eprintln!(rt; "scm_monitor: the journal is not what the sessions were answered");
+        return;
+    }
     if !options.check {
-        return ExitCode::SUCCESS;
+        return;
     }
     if let Some(line) = findings.refused() {
         let (number, refusal) = (line.number, line.refusal);
@@ -146,17 +144,16 @@ fn end(rt: &impl Eprint, options: Options, findings: &Findings) -> ExitCode {
             refusal.text()
         );
     }
-    ExitCode::from(findings.status())
 }
 
-// Runs the script on this thread alone, and writes the journal where it is asked for.
+// Runs the script on this thread alone, and writes the journal where it is asked for. Gives the exit status.
 fn run_alone<R: Read, W: Write>(
     alloc: Global,
     options: Options,
     reader: &mut Port<R>,
     writer: &mut Port<W>,
     findings: &mut Findings,
-) -> Result<(), RunFault>
+) -> Result<u8, RunFault>
     requires reads { has_failed reader.old ≡ false }
     requires writes { has_failed writer.old ≡ false }
 {
@@ -164,33 +161,17 @@ fn run_alone<R: Read, W: Write>(
     if options.journal {
         write_journal(writer, &book, names.as_slice())?;
     }
-    Ok(())
+    Ok(end_status(true, options.check, findings))
 }
 
-// Writes the journal where it is asked for and the audit agreed. Tells whether it did.
-fn write_agreed<W: Write>(
-    writer: &mut Port<W>,
-    ended: Ended,
-    journal: bool,
-) -> Result<bool, RunFault>
-    requires writes { has_failed writer.old ≡ false }
-    requires named { IsTrue ended.audit.agreed → AreNamed ended.names.items ended.audit.book.journal }
-{
-    let Ended { audit, names } = ended;
-    if journal && audit.agreed {
-        write_journal(writer, &audit.book, names.as_slice())?;
-    }
-    Ok(audit.agreed)
-}
-
-// The same beside workers. Tells whether the audit at the end agreed; where it didn't, no journal is written.
+// The same beside workers.
 fn run_beside<H: AllocGlobal + Threads + Wait + Sync, R: Read, W: Write>(
     rt: &H,
     options: Options,
     reader: &mut Port<R>,
     writer: &mut Port<W>,
     findings: &mut Findings,
-) -> Result<bool, RunFault>
+) -> Result<u8, RunFault>
     requires reads { has_failed reader.old ≡ false }
     requires writes { has_failed writer.old ≡ false }
 {
@@ -200,7 +181,7 @@ fn run_beside<H: AllocGlobal + Threads + Wait + Sync, R: Read, W: Write>(
     let ended = run_with_workers::<Brand, R, W, FreeGate, H>(
         rt, alloc, token, reader, writer, findings, &FreeGate, workers,
     )?;
-    write_agreed(writer, ended, options.journal)
+    end_run(writer, ended, options, findings)
 }
 
 // The same with a thread for each session.
@@ -210,7 +191,7 @@ fn run_apart<H: AllocGlobal + Threads + Wait + Sync, R: Read, W: Write>(
     reader: &mut Port<R>,
     writer: &mut Port<W>,
     findings: &mut Findings,
-) -> Result<bool, RunFault>
+) -> Result<u8, RunFault>
     requires reads { has_failed reader.old ≡ false }
     requires writes { has_failed writer.old ≡ false }
 {
@@ -220,5 +201,5 @@ fn run_apart<H: AllocGlobal + Threads + Wait + Sync, R: Read, W: Write>(
     let ended = run_each::<Brand, R, W, FreeGate, H>(
         rt, alloc, token, reader, writer, findings, &FreeGate, workers,
     )?;
-    write_agreed(writer, ended, options.journal)
+    end_run(writer, ended, options, findings)
 }
