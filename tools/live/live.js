@@ -48,8 +48,12 @@ function show({ replies, asked, picture }) {
   else find("picture").textContent = "No question was answered: write a line as “a ask t”.";
 }
 
+// Keeps the replies beside their lines; where they stand below the script, the answer that is drawn is in sight.
 function follow() {
-  find("replies").scrollTop = find("script").scrollTop;
+  const [script, replies] = [find("script"), find("replies")];
+  const drawn = replies.querySelector(".drawn");
+  const isBeside = script.offsetTop === replies.offsetTop;
+  replies.scrollTop = isBeside ? script.scrollTop : drawn ? drawn.offsetTop - replies.offsetTop - replies.clientHeight / 2 : 0;
 }
 
 function take(name) {
