@@ -11,7 +11,7 @@ class Monitor {
     this.handle = this.made.page_alloc(16n);
     this.needed = this.made.page_alloc(8n);
     this.bytes(this.handle, 16).fill(0);
-    this.grow(4096);
+    this.grow(256);
     if (this.made.scm_make(this.handle) !== 0) throw new Error("no memory for a monitor");
   }
 

@@ -3,6 +3,7 @@ const find = (id) => document.getElementById(id);
 const examples = JSON.parse(find("examples").textContent);
 const engine = URL.createObjectURL(new Blob([find("engine").textContent], { type: "text/javascript" }));
 const PAUSE = 120; // milliseconds without a key before a script is run
+const LONGEST = 1000; // characters of a reply that are shown
 let monitor = null; // the compiled module
 let worker = null;
 let waiting = null;
@@ -36,8 +37,7 @@ function show({ replies, asked, picture }) {
     row.dataset.line = at + 1;
     row.className = [reply === "" ? "blank" : said, picture?.line === at + 1 ? "drawn" : ""].join(" ");
     const inside = document.createElement(asked.includes(at) ? "button" : "span");
-    inside.textContent = reply;
-    inside.title = reply;
+    inside.textContent = inside.title = reply.slice(0, LONGEST);
     inside.onclick = asked.includes(at) ? () => ((chosen = at), run()) : null;
     row.append(inside);
     return row;
