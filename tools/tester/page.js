@@ -72,7 +72,7 @@ function enliven(data) {
   function showSeen(at) {
     const path = lanes.querySelector(".seen:not(.tip)");
     const from = seenBy.get(at);
-    const [a, b] = [from && op(from), at && op(at)].map((it) => it?.querySelector(".face"));
+    const [a, b] = [from, at].map((it) => (it ? op(it)?.querySelector(".face") : null));
     path.classList.toggle("shown", Boolean(a && b));
     if (!a || !b) return;
     const [x, y, width, height] = ["x", "y", "width", "height"].map((name) => [a, b].map((it) => Number(it.getAttribute(name))));
