@@ -77,7 +77,7 @@ async function begin() {
   try {
     monitor = await WebAssembly.compile(bytes);
   } catch (fault) {
-    return say(`This browser doesn't run WebAssembly with a memory of 64 bits, as Chromium does from 133 on and Firefox from 134 on: ${fault}`);
+    return say(`This browser doesn't run WebAssembly with a memory of 64 bits, as Chromium does from 133 on: ${fault}`);
   }
   take(Object.hasOwn(examples, location.hash.slice(1)) ? location.hash.slice(1) : find("example").value);
 }
