@@ -10,6 +10,14 @@ use crate::Place;
 use scm_sequences::{Lengths, Op, Sequences};
 use std::marker::Model;
 
+/// A read: where it stands, the cell that it reads, and what it read there.
+#[derive(Clone, Copy)]
+pub(crate) struct Reading {
+    pub(crate) place: Place,
+    pub(crate) cell: usize,
+    pub(crate) value: u64,
+}
+
 /// The trace of these first contents and these sequences, cut to these lengths.
 #[derive(Drop)]
 pub(crate) struct CutTrace<'a> {
@@ -116,13 +124,12 @@ impl<'a> CutTrace<'a> {
         written_to(self.operation(place)?, cell)
     }
 
-    /// The cell that the operation at this place reads, if it reads one, and what it read there.
-    pub(crate) fn reading(&self, place: Place) -> Option<(usize, u64)>
-        ensures { MatchOption result ((cell : ℕ) → read_at self.now place cell ≡ None) (λ found. read_at self.now place found.0 ≡ Some found.1) }
-    {
+    /// What the operation at this place reads, if it reads.
+    pub(crate) fn reading(&self, place: Place) -> Option<Reading> {
         let op = self.operation(place)?;
-        let value = read_of(op, op.cell())?;
-        Some((op.cell(), value))
+        let cell = op.cell();
+        let value = read_of(op, cell)?;
+        Some(Reading { place, cell, value })
     }
 
     /// What this cell holds at first, if that is known.

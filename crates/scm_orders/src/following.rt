@@ -1,151 +1,136 @@
-//! Whether an edge follows from the trace and from earlier edges.
-ghost use Rattle.std.specs.Prelude.{◌≡◌, ◌↔◌, IsTrue};
-ghost use Rattle.scm_orders.specs.Following.{Follows, FollowsBy, IsProgramOrder, IsOnlySource, SeesOnly, IsBeforeWrites, ReadsFirst, AreJoined, IsHiding, IsBeforeRead, IsOverwritten, two_of};
-
+//! Whether a line follows from the trace and from earlier lines.
+use crate::candidates::{Left, leaves, writes_what_is_read};
 use crate::cut_trace::CutTrace;
-use crate::sources::{sees_no_first, sees_no_other, writes_or_reads_other, writes_what_is_read};
-use crate::{Edge, Place, Reason};
+use crate::showing::{fact_at, is_before, is_joined};
+use crate::{Fact, Line, MOST_HINTS, Place, Rule};
 
-/// Whether the edge follows from the trace and the earlier edges.
-pub(crate) fn follows(trace: &CutTrace<'_>, earlier: &[Edge], edge: Edge) -> bool
-    ensures { IsTrue result ↔ Follows trace.now earlier.now edge }
-{
-    trace.operation(edge.from).is_some()
-        && trace.operation(edge.to).is_some()
-        && follows_by(trace, earlier, edge)
+/// Whether the line follows from the trace and the earlier lines, of which these are its hints.
+pub(crate) fn follows(trace: &CutTrace<'_>, earlier: &[Line], hints: &[u32], line: Line) -> bool {
+    hints.iter().all(|hint| (*hint as usize) < earlier.len())
+        && has_few_hints(line)
+        && is_of(trace, line.fact)
+        && follows_by(trace, earlier, hints, line.fact, line.rule)
 }
 
-// Whether it does for its reason.
-fn follows_by(trace: &CutTrace<'_>, earlier: &[Edge], edge: Edge) -> bool
-    ensures { IsTrue result ↔ FollowsBy trace.now earlier.now edge.from edge.to edge.reason }
-{
-    match edge.reason {
-        Reason::Program => is_program_order(edge.from, edge.to),
-        Reason::Source => is_only_source(trace, earlier, edge.from, edge.to),
-        Reason::Initial => is_before_writes(trace, earlier, edge.from, edge.to),
-        Reason::Joined { first, second } => match two(earlier, first, second) {
-            Some((a, b)) => are_joined(edge.from, edge.to, a, b),
-            None => false,
-        },
-        Reason::Hidden { first, second } => match two(earlier, first, second) {
-            Some((a, b)) => is_hiding(trace, edge.from, edge.to, a, b),
-            None => false,
-        },
-        Reason::AfterSource { source, before } => match two(earlier, source, before) {
-            Some((a, b)) => is_before_read(trace, edge.from, edge.to, a, b),
-            None => false,
-        },
-        Reason::BeforeNext { source, before } => match two(earlier, source, before) {
-            Some((a, b)) => is_overwritten(trace, edge.from, edge.to, a, b),
-            None => false,
-        },
+// Whether the line has no more hints than its rule allows.
+fn has_few_hints(line: Line) -> bool {
+    matches!(line.rule, Rule::Joined) || line.count <= MOST_HINTS
+}
+
+// Whether the fact is one of operations of the trace.
+fn is_of(trace: &CutTrace<'_>, fact: Fact) -> bool {
+    match fact {
+        Fact::Before { from, to } => are_operations(trace, from, to),
+        Fact::Sees { write, read } | Fact::Hidden { write, read } => {
+            are_operations(trace, write, read)
+        }
+        Fact::SeesFirst { read } => trace.operation(read).is_some(),
     }
 }
 
-// Whether both are of one process, which has them in this order.
-fn is_program_order(from: Place, to: Place) -> bool
-    ensures { IsTrue result ↔ IsProgramOrder from to }
-{
-    from.process == to.process && from.at < to.at
+// Whether there are operations at both places.
+fn are_operations(trace: &CutTrace<'_>, a: Place, b: Place) -> bool {
+    trace.operation(a).is_some() && trace.operation(b).is_some()
 }
 
-// Whether `to` reads a cell, and nothing but `from` is left that it can see.
-fn is_only_source(trace: &CutTrace<'_>, earlier: &[Edge], from: Place, to: Place) -> bool
-    ensures { IsTrue result ↔ IsOnlySource trace.now earlier.now from to }
-{
-    match trace.reading(to) {
-        Some((cell, value)) => sees_only(trace, earlier, cell, value, from, to),
-        None => false,
-    }
-}
-
-// Whether `to` reads this value of this cell, and nothing but `from` is left that it can see.
-fn sees_only(
+// Whether the fact follows by the rule.
+fn follows_by(
     trace: &CutTrace<'_>,
-    earlier: &[Edge],
-    cell: usize,
-    value: u64,
+    earlier: &[Line],
+    hints: &[u32],
+    fact: Fact,
+    rule: Rule,
+) -> bool {
+    match fact {
+        Fact::Before { from, to } => is_ordered(trace, earlier, hints, rule, from, to),
+        Fact::Sees { write, read } => {
+            matches!(rule, Rule::Source) && leaves(trace, earlier, hints, read, Left::Write(write))
+        }
+        Fact::SeesFirst { read } => {
+            matches!(rule, Rule::Source) && leaves(trace, earlier, hints, read, Left::First)
+        }
+        Fact::Hidden { write, read } => match rule {
+            Rule::Hidden { by } => is_hidden(trace, earlier, hints, by, write, read),
+            _ => false,
+        },
+    }
+}
+
+// Whether the one operation stands before the other by the rule.
+fn is_ordered(
+    trace: &CutTrace<'_>,
+    earlier: &[Line],
+    hints: &[u32],
+    rule: Rule,
     from: Place,
     to: Place,
-) -> bool
-    ensures { IsTrue result ↔ SeesOnly trace.now earlier.now cell value from to }
-{
-    trace.read(to, cell) == Some(value)
-        && sees_no_other(trace, earlier, cell, value, from, to)
-        && sees_no_first(trace, earlier, cell, value, to)
-}
-
-// Whether `from` reads a cell, no write is left that it can see, and `to` writes the cell or read another value of it.
-fn is_before_writes(trace: &CutTrace<'_>, earlier: &[Edge], from: Place, to: Place) -> bool
-    ensures { IsTrue result ↔ IsBeforeWrites trace.now earlier.now from to }
-{
-    match trace.reading(from) {
-        Some((cell, value)) => reads_first(trace, earlier, cell, value, from, to),
-        None => false,
+) -> bool {
+    match rule {
+        Rule::Joined => is_joined(earlier, hints, from, to),
+        Rule::AfterAll => leaves(trace, earlier, hints, to, Left::After(from)),
+        Rule::BeforeAll => is_before_all(trace, earlier, hints, from, to),
+        Rule::AfterSource => is_after_source(trace, earlier, hints, from, to),
+        Rule::Hidden { .. } | Rule::Source => false,
     }
 }
 
-// Whether `from` reads this value of this cell, no write is left that it can see, and `to` is another operation, which
-// writes the cell or read another value of it.
-fn reads_first(
+// Whether `by` writes the cell that is read, and stands between the write and the read.
+fn is_hidden(
     trace: &CutTrace<'_>,
-    earlier: &[Edge],
-    cell: usize,
-    value: u64,
-    from: Place,
-    to: Place,
-) -> bool
-    ensures { IsTrue result ↔ ReadsFirst trace.now earlier.now cell value from to }
-{
-    from != to
-        && trace.read(from, cell) == Some(value)
-        && writes_or_reads_other(trace, to, cell, value)
-        && sees_no_other(trace, earlier, cell, value, from, from)
+    earlier: &[Line],
+    hints: &[u32],
+    by: Place,
+    write: Place,
+    read: Place,
+) -> bool {
+    writes_what_is_read(trace, by, read)
+        && is_before(earlier, hints, write, by)
+        && is_before(earlier, hints, by, read)
 }
 
-// The edges of these numbers, where both are earlier ones.
-fn two(earlier: &[Edge], first: u32, second: u32) -> Option<(Edge, Edge)>
-    ensures { result ≡ two_of earlier.now first second }
-{
-    let a = earlier.get(first as usize)?;
-    let b = earlier.get(second as usize)?;
-    Some((*a, *b))
+// Whether what is left for `read` to see comes before `write`, another operation, which writes the cell.
+fn is_before_all(
+    trace: &CutTrace<'_>,
+    earlier: &[Line],
+    hints: &[u32],
+    read: Place,
+    write: Place,
+) -> bool {
+    read != write
+        && writes_what_is_read(trace, write, read)
+        && leaves(trace, earlier, hints, read, Left::Before(write))
 }
 
-// Whether one edge and then the other leads from `from` to `to`.
-fn are_joined(from: Place, to: Place, a: Edge, b: Edge) -> bool
-    ensures { IsTrue result ↔ AreJoined from to a b }
-{
-    a.from == from && a.to == b.from && b.to == to
+// Whether by a hint `source` is what a read sees, and `write`, another write of the cell, stands before that read.
+fn is_after_source(
+    trace: &CutTrace<'_>,
+    earlier: &[Line],
+    hints: &[u32],
+    write: Place,
+    source: Place,
+) -> bool {
+    write != source
+        && hints.iter().any(|hint| {
+            fact_at(earlier, *hint)
+                .is_some_and(|fact| is_before_reader(trace, earlier, hints, fact, write, source))
+        })
 }
 
-// Whether they do, and what stands between them writes a cell that `to` reads.
-fn is_hiding(trace: &CutTrace<'_>, from: Place, to: Place, a: Edge, b: Edge) -> bool
-    ensures { IsTrue result ↔ IsHiding trace.now from to a b }
-{
-    are_joined(from, to, a, b) && writes_what_is_read(trace, a.to, to)
-}
-
-// Whether `to` is the source of a read, and `from`, another write of the cell, stands before that read.
-fn is_before_read(trace: &CutTrace<'_>, from: Place, to: Place, source: Edge, before: Edge) -> bool
-    ensures { IsTrue result ↔ IsBeforeRead trace.now from to source before }
-{
-    source.reason.is_source()
-        && source.to == before.to
-        && before.from == from
-        && source.from == to
-        && to != from
-        && writes_what_is_read(trace, from, source.to)
-}
-
-// Whether `from` reads what its source wrote, and that stands before `to`, another write of the cell.
-fn is_overwritten(trace: &CutTrace<'_>, from: Place, to: Place, source: Edge, before: Edge) -> bool
-    ensures { IsTrue result ↔ IsOverwritten trace.now from to source before }
-{
-    source.reason.is_source()
-        && source.from == before.from
-        && source.to == from
-        && before.to == to
-        && from != to
-        && writes_what_is_read(trace, to, from)
+// Whether the fact says that a read sees `source`, and `write` writes its cell and stands before it.
+fn is_before_reader(
+    trace: &CutTrace<'_>,
+    earlier: &[Line],
+    hints: &[u32],
+    fact: Fact,
+    write: Place,
+    source: Place,
+) -> bool {
+    match fact {
+        Fact::Sees { write: seen, read } => {
+            seen == source
+                && writes_what_is_read(trace, write, read)
+                && is_before(earlier, hints, write, read)
+        }
+        Fact::Before { .. } | Fact::SeesFirst { .. } | Fact::Hidden { .. } => false,
+    }
 }
