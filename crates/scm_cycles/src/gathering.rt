@@ -161,37 +161,28 @@ impl<'a> Gathering<'a> {
         }
     }
 
-    // The line that joins these steps, from the one operation up to the other.
+    // The line that joins these steps, from the one operation to the other.
     fn join(&mut self, path: &[u32], from: u32, to: u32) -> Option<u32> {
-        let to = match path.last() {
-            Some(id) => self.search.steps.get(*id)?.to,
-            None => to,
-        };
         let (from, to) = (self.search.place(from)?, self.search.place(to)?);
-        let fact = Fact::Before { from, to };
-        if let Some(line) = self.lines.find(fact) {
-            return Some(line);
-        }
         let mut hints = Vec::new(self.search.alloc);
         for id in path {
             hints.push(self.line(*id)?).ok()?;
         }
-        self.lines.add(fact, Rule::Joined, &hints)
+        self.lines
+            .find_or_add(Fact::Before { from, to }, Rule::Joined, &hints)
     }
 
     fn name_hidden(&mut self, write: u32, by: u32, read: u32) -> Option<u32> {
-        let (before, after) = (self.name_order(write, by)?, self.name_order(by, read)?);
-        let (write, read) = (self.search.place(write)?, self.search.place(read)?);
-        let fact = Fact::Hidden { write, read };
-        if let Some(line) = self.lines.find(fact) {
-            return Some(line);
-        }
         let mut hints = Vec::new(self.search.alloc);
-        for line in [before, after].iter().filter_map(|line| *line) {
-            hints.push(line).ok()?;
+        for (from, to) in [(write, by), (by, read)] {
+            if let Some(line) = self.name_order(from, to)? {
+                hints.push(line).ok()?;
+            }
         }
+        let (write, read) = (self.search.place(write)?, self.search.place(read)?);
         let by = self.search.place(by)?;
-        self.lines.add(fact, Rule::Hidden { by }, &hints)
+        self.lines
+            .find_or_add(Fact::Hidden { write, read }, Rule::Hidden { by }, &hints)
     }
 
     // Joins the closing step and the way back from its end to its beginning.

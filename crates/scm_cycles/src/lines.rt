@@ -10,7 +10,7 @@ const MOST_LINES: usize = 1 << 16;
 #[derive(Drop)]
 pub(crate) struct Lines {
     pub(crate) derivation: Derivation,
-    known: IndexMap<Fact, u32>,
+    known: IndexMap<(Fact, Rule), u32>,
 }
 
 impl Lines {
@@ -42,12 +42,15 @@ impl Lines {
             count,
         };
         self.derivation.lines.push(line).ok()?;
-        let _ = self.known.insert(fact, number).ok()?;
+        let _ = self.known.insert((fact, rule), number).ok()?;
         Some(number)
     }
 
-    /// The last line that says so, if there is one.
-    pub(crate) fn find(&self, fact: Fact) -> Option<u32> {
-        self.known.get(&fact).copied()
+    /// The line that says so for the same reason, which is added where it isn't there.
+    pub(crate) fn find_or_add(&mut self, fact: Fact, rule: Rule, hints: &[u32]) -> Option<u32> {
+        match self.known.get(&(fact, rule)) {
+            Some(line) => Some(*line),
+            None => self.add(fact, rule, hints),
+        }
     }
 }

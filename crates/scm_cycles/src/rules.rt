@@ -7,7 +7,7 @@ use crate::views::{Left, View};
 impl Search {
     /// Draws all that follows, round by round, until a cycle is closed or nothing is new. The step that closed it.
     pub(crate) fn run(&mut self) -> Option<u32> {
-        for _ in 0..self.fuel_left() {
+        for _ in 0..self.fuel {
             let before = self.steps.len()?;
             self.visit_all()?;
             if self.closing.is_some() {

@@ -31,7 +31,7 @@ pub(crate) struct Search {
     flags: Flags,
     /// The step that closed a cycle, if one did.
     pub(crate) closing: Option<u32>,
-    fuel: u64,
+    pub(crate) fuel: u64,
 }
 
 impl Search {

@@ -8,7 +8,7 @@ mod calls;
 mod commands;
 mod declarations;
 mod each;
-mod edges;
+mod derivations;
 mod ended;
 mod fault;
 mod findings;
