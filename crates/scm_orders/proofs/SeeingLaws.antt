@@ -8,7 +8,7 @@ use Rattle.scm_sequences.specs.Ops.{cell_of, read_of, may_give, finds}
 use Rattle.scm_sequences.specs.Traces.{Trace, initial_of}
 use Rattle.scm_sequences.specs.Fronts.{count_in, following, last_written, first_read, value_before, IsLegal}
 use Rattle.scm_sequences.specs.FrontLaws.{last_written-nil, last_written-step, first_read-step, value_before-is, IsLegal-earlier, IsLegal-operation, IsLegal-finds}
-use Rattle.scm_orders.specs.declared.edge.Place.{Place}
+use Rattle.scm_orders.specs.declared.place.Place.{Place}
 use Rattle.scm_orders.specs.Places.{operation_at, read_at, written_at}
 use Rattle.scm_orders.specs.Moments.{moment}
 use Rattle.scm_orders.proofs.PlaceLaws.{none_is, is_some_at}

@@ -1,4 +1,10 @@
 //! What a read can see, by the facts of hints.
+ghost use Rattle.std.specs.Prelude.{ℕ, ◌≢◌, ◌<◌, ◌⊎◌, ◌↔◌, IsTrue, IsSome, IsSomeAnd, MatchOption, length, ⊤};
+ghost use Rattle.scm_sequences.specs.Traces.{initial_of};
+ghost use Rattle.scm_orders.specs.Places.{WritesWhatIsRead};
+ghost use Rattle.scm_orders.specs.Facts.{fact_at as known_at, SomeHint};
+ghost use Rattle.scm_orders.specs.Candidates.{Overwrites, Denies, RulesOut, PutsWriteBefore, SaysOtherFirst, RulesOutFirst, HasFirst, Has, HasBy, IsSettled, IsFirstSettled, LeavesOnly, Leaves};
+
 use crate::cut_trace::{CutTrace, Reading};
 use crate::showing::{fact_at, shows};
 use crate::{Fact, Line, Place};
@@ -10,20 +16,24 @@ pub(crate) enum Left {
     Write(Place),
     /// First contents alone.
     First,
-    /// This operation, and writes after it.
+    /// This operation, and what comes after it.
     After(Place),
-    /// First contents, and writes before this operation.
+    /// First contents, and what comes before this operation.
     Before(Place),
 }
 
 impl Left {
-    // Whether first contents are among it.
-    fn has_first(self) -> bool {
+    // Whether it has first contents.
+    fn has_first(self) -> bool
+        ensures { IsTrue result ↔ HasFirst self }
+    {
         matches!(self, Left::First | Left::Before(_))
     }
 
-    // Whether the write is among it, by the order of processes.
-    fn has(self, write: Place) -> bool {
+    // Whether it has this write, by the order of processes.
+    fn has(self, write: Place) -> bool
+        ensures { IsTrue result ↔ Has self write }
+    {
         match self {
             Left::Write(only) => write == only,
             Left::First => false,
@@ -32,8 +42,10 @@ impl Left {
         }
     }
 
-    // Whether the fact shows that it is.
-    fn is_shown(self, fact: Fact, write: Place) -> bool {
+    // Whether it has this write by the fact.
+    fn has_by(self, fact: Fact, write: Place) -> bool
+        ensures { IsTrue result ↔ HasBy self fact write }
+    {
         match self {
             Left::Write(_) | Left::First => false,
             Left::After(from) => shows(fact, from, write),
@@ -42,15 +54,24 @@ impl Left {
     }
 }
 
-// Whether the fact puts a later write of its process between the write and the read.
-fn overwrites(trace: &CutTrace<'_>, fact: Fact, read: Reading, write: Place) -> bool {
-    fact.order().is_some_and(|(a, b)| {
-        write.is_earlier(a) && trace.written(a, read.cell).is_some() && b.is_up_to(read.place)
-    })
+// Whether the fact puts a write of the cell, later in the process of the write, before the read.
+fn overwrites(trace: &CutTrace<'_>, fact: Fact, read: Reading, write: Place) -> bool
+    ensures { IsTrue result ↔ Overwrites trace.now fact read write }
+{
+    match fact.order() {
+        Some((from, to)) => {
+            write.is_earlier(from)
+                && trace.written(from, read.cell).is_some()
+                && to.is_up_to(read.place)
+        }
+        None => false,
+    }
 }
 
-// Whether the fact says what the read sees or what is hidden from it, and it isn't this write.
-fn denies(fact: Fact, read: Place, write: Place) -> bool {
+// Whether the fact says that the read sees something else, or that the write or a later one of its process is hidden from it.
+fn denies(fact: Fact, read: Place, write: Place) -> bool
+    ensures { IsTrue result ↔ Denies fact read write }
+{
     match fact {
         Fact::Before { .. } => false,
         Fact::Sees { write: seen, read: by } => by == read && seen != write,
@@ -59,57 +80,98 @@ fn denies(fact: Fact, read: Place, write: Place) -> bool {
     }
 }
 
-// Whether the fact shows that the read doesn't see the write.
-fn rules_out(trace: &CutTrace<'_>, fact: Fact, read: Reading, write: Place) -> bool {
+// Whether by the fact the read doesn't see the write.
+fn rules_out(trace: &CutTrace<'_>, fact: Fact, read: Reading, write: Place) -> bool
+    ensures { IsTrue result ↔ RulesOut trace.now fact read write }
+{
     shows(fact, read.place, write)
         || overwrites(trace, fact, read, write)
         || denies(fact, read.place, write)
 }
 
-// Whether the fact says that a write of the cell stands before the read.
-fn is_write_before(trace: &CutTrace<'_>, fact: Fact, read: Reading) -> bool {
-    fact.order().is_some_and(|(a, b)| {
-        trace.written(a, read.cell).is_some() && b.is_up_to(read.place)
-    })
-}
-
-// Whether the fact says that the read sees a write, or that first contents are another value.
-fn denies_first(trace: &CutTrace<'_>, fact: Fact, read: Reading) -> bool {
-    match fact {
-        Fact::Before { .. } | Fact::Hidden { .. } => false,
-        Fact::Sees { read: by, .. } => by == read.place,
-        Fact::SeesFirst { read: by } => trace
-            .read(by, read.cell)
-            .is_some_and(|other| other != read.value),
+// Whether the fact puts a write of the cell before the read.
+fn puts_write_before(trace: &CutTrace<'_>, fact: Fact, read: Reading) -> bool
+    ensures { IsTrue result ↔ PutsWriteBefore trace.now fact read }
+{
+    match fact.order() {
+        Some((from, to)) => {
+            trace.written(from, read.cell).is_some() && to.is_up_to(read.place)
+        }
+        None => false,
     }
 }
 
-// Whether the fact shows that the read doesn't see first contents.
-fn rules_out_first(trace: &CutTrace<'_>, fact: Fact, read: Reading) -> bool {
-    is_write_before(trace, fact, read) || denies_first(trace, fact, read)
+// Whether the fact says that an operation which sees first contents read another value of the cell.
+fn says_other_first(trace: &CutTrace<'_>, fact: Fact, read: Reading) -> bool
+    ensures { IsTrue result ↔ SaysOtherFirst trace.now fact read }
+{
+    match fact {
+        Fact::SeesFirst { read: by } => trace
+            .read(by, read.cell)
+            .is_some_and(|other| other != read.value),
+        Fact::Before { .. } | Fact::Sees { .. } | Fact::Hidden { .. } => false,
+    }
 }
 
-// Whether the read is known not to see first contents.
-fn is_first_ruled_out(
+// Whether by this hint the read doesn't see first contents.
+fn hint_rules_out_first(
+    trace: &CutTrace<'_>,
+    earlier: &[Line],
+    hint: u32,
+    read: Reading,
+) -> bool
+    ensures { IsTrue result ↔ IsSomeAnd (known_at earlier.now hint) (λ fact. RulesOutFirst trace.now fact read) }
+{
+    match fact_at(earlier, hint) {
+        Some(fact) => puts_write_before(trace, fact, read) || says_other_first(trace, fact, read),
+        None => false,
+    }
+}
+
+// Whether first contents are another value than the read's.
+fn is_other_first(trace: &CutTrace<'_>, read: Reading) -> bool
+    ensures { IsTrue result ↔ IsSomeAnd (initial_of trace.now read.cell) (λ first. first ≢ read.value) }
+{
+    trace
+        .initial(read.cell)
+        .is_some_and(|first| first != read.value)
+}
+
+// Whether first contents are left, or another value, or a hint rules them out.
+fn is_first_settled(
     trace: &CutTrace<'_>,
     earlier: &[Line],
     hints: &[u32],
     read: Reading,
-) -> bool {
-    trace
-        .initial(read.cell)
-        .is_some_and(|first| first != read.value)
-        || hints.iter().any(|hint| {
-            fact_at(earlier, *hint).is_some_and(|fact| rules_out_first(trace, fact, read))
-        })
+    left: Left,
+) -> bool
+    ensures { IsTrue result ↔ IsFirstSettled trace.now earlier.now hints.now read left }
+{
+    left.has_first()
+        || is_other_first(trace, read)
+        || hints
+            .iter()
+            .any(|hint| hint_rules_out_first(trace, earlier, *hint, read))
 }
 
-// Whether the fact rules the write out, or shows that it is among what is left.
-fn settles(trace: &CutTrace<'_>, fact: Fact, read: Reading, left: Left, write: Place) -> bool {
-    rules_out(trace, fact, read, write) || left.is_shown(fact, write)
+// Whether this hint rules the write out, or shows that it is left.
+fn hint_settles(
+    trace: &CutTrace<'_>,
+    earlier: &[Line],
+    hint: u32,
+    read: Reading,
+    left: Left,
+    write: Place,
+) -> bool
+    ensures { IsTrue result ↔ IsSomeAnd (known_at earlier.now hint) (λ fact. RulesOut trace.now fact read write ⊎ HasBy left fact write) }
+{
+    match fact_at(earlier, hint) {
+        Some(fact) => rules_out(trace, fact, read, write) || left.has_by(fact, write),
+        None => false,
+    }
 }
 
-// The first of these hints whose fact does, if there is one.
+// The first of these hints that does, if there is one.
 fn settling_hint(
     trace: &CutTrace<'_>,
     earlier: &[Line],
@@ -117,14 +179,17 @@ fn settling_hint(
     read: Reading,
     left: Left,
     write: Place,
-) -> Option<usize> {
-    hints.iter().position(|hint| {
-        fact_at(earlier, *hint).is_some_and(|fact| settles(trace, fact, read, left, write))
-    })
+) -> Option<usize>
+    ensures settles { IsSome result ↔ SomeHint earlier.now hints.now (λ fact. RulesOut trace.now fact read write ⊎ HasBy left fact write) }
+    ensures within { MatchOption result ⊤ (λ k. k < length hints.now) }
+{
+    hints
+        .iter()
+        .position(|hint| hint_settles(trace, earlier, *hint, read, left, write))
 }
 
-// Whether one of the hints' facts does. The search begins with the hint that served last, so that hints in the order of the
-// writes cost one pass.
+// Whether one of the hints does. The search begins with the one that served last, so that hints in the order of the writes
+// cost one pass.
 fn is_settled_by_hint(
     trace: &CutTrace<'_>,
     earlier: &[Line],
@@ -133,7 +198,9 @@ fn is_settled_by_hint(
     left: Left,
     write: Place,
     served: &mut usize,
-) -> bool {
+) -> bool
+    ensures { IsTrue result ↔ SomeHint earlier.now hints.now (λ fact. RulesOut trace.now fact read write ⊎ HasBy left fact write) }
+{
     let start = (*served).min(hints.len());
     if let Some(k) = settling_hint(trace, earlier, &hints[start..], read, left, write) {
         *served = start + k;
@@ -148,7 +215,7 @@ fn is_settled_by_hint(
     }
 }
 
-// Whether the operation at this place is no write of the value that was read, or is ruled out or among what is left.
+// Whether the operation at this place, where it writes the read's value to the cell, is settled.
 fn is_settled(
     trace: &CutTrace<'_>,
     earlier: &[Line],
@@ -157,7 +224,9 @@ fn is_settled(
     left: Left,
     write: Place,
     served: &mut usize,
-) -> bool {
+) -> bool
+    ensures { IsTrue result ↔ IsSettled trace.now earlier.now hints.now read left write }
+{
     trace.written(write, read.cell) != Some(read.value)
         || read.place.is_up_to(write)
         || left.has(write)
@@ -173,7 +242,9 @@ fn is_process_settled(
     left: Left,
     process: u8,
     served: &mut usize,
-) -> bool {
+) -> bool
+    ensures { IsTrue result ↔ ((at : ℕ) → IsSettled trace.now earlier.now hints.now read left (record { process = process; at = at })) }
+{
     for at in 0..trace.count(usize::from(process)) {
         let write = Place {
             process,
@@ -187,13 +258,15 @@ fn is_process_settled(
 }
 
 // Whether each operation is.
-fn are_writes_settled(
+fn are_settled(
     trace: &CutTrace<'_>,
     earlier: &[Line],
     hints: &[u32],
     read: Reading,
     left: Left,
-) -> bool {
+) -> bool
+    ensures { IsTrue result ↔ ((write : Place) → IsSettled trace.now earlier.now hints.now read left write) }
+{
     let mut served = 0;
     for p in 0..trace.procs() {
         if !is_process_settled(trace, earlier, hints, read, left, p as u8, &mut served) {
@@ -204,15 +277,17 @@ fn are_writes_settled(
 }
 
 // Whether nothing but this is left for the read to see.
-fn leaves_reading(
+fn leaves_only(
     trace: &CutTrace<'_>,
     earlier: &[Line],
     hints: &[u32],
-    read: Reading,
     left: Left,
-) -> bool {
-    (left.has_first() || is_first_ruled_out(trace, earlier, hints, read))
-        && are_writes_settled(trace, earlier, hints, read, left)
+    read: Reading,
+) -> bool
+    ensures { IsTrue result ↔ LeavesOnly trace.now earlier.now hints.now left read }
+{
+    is_first_settled(trace, earlier, hints, read, left)
+        && are_settled(trace, earlier, hints, read, left)
 }
 
 /// Whether the operation at this place reads, and nothing but this is left for it to see.
@@ -220,17 +295,21 @@ pub(crate) fn leaves(
     trace: &CutTrace<'_>,
     earlier: &[Line],
     hints: &[u32],
-    read: Place,
+    place: Place,
     left: Left,
-) -> bool {
-    match trace.reading(read) {
-        Some(reading) => leaves_reading(trace, earlier, hints, reading, left),
+) -> bool
+    ensures { IsTrue result ↔ Leaves trace.now earlier.now hints.now place left }
+{
+    match trace.reading(place) {
+        Some(read) => leaves_only(trace, earlier, hints, left, read),
         None => false,
     }
 }
 
 /// Whether the one writes a cell that the other reads.
-pub(crate) fn writes_what_is_read(trace: &CutTrace<'_>, write: Place, read: Place) -> bool {
+pub(crate) fn writes_what_is_read(trace: &CutTrace<'_>, write: Place, read: Place) -> bool
+    ensures { IsTrue result ↔ WritesWhatIsRead trace.now write read }
+{
     match trace.reading(read) {
         Some(reading) => trace.written(write, reading.cell).is_some(),
         None => false,

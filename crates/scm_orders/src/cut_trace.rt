@@ -1,10 +1,10 @@
 //! A trace cut to lengths, as it is asked about.
-ghost use Rattle.std.specs.Prelude.{ℕ, ◌≡◌, ◌≤◌, length, slice_index, Some, None, MatchOption};
+ghost use Rattle.std.specs.Prelude.{ℕ, ◌≡◌, ◌≤◌, length, slice_index, None, MatchOption};
 ghost use Rattle.scm_sequences.specs.declared.limits.TheConstants.{MOST_OPERATIONS, MOST_PROCESSES};
 ghost use Rattle.scm_sequences.specs.Ops.{read_of as op_read_of, written_to as op_written_to};
 ghost use Rattle.scm_sequences.specs.Sequences.{operations};
 ghost use Rattle.scm_sequences.specs.Traces.{initial_of, trace_of, cut_to};
-ghost use Rattle.scm_orders.specs.Places.{operation_at, read_at, written_at};
+ghost use Rattle.scm_orders.specs.Places.{operation_at, read_at, written_at, IsReading};
 
 use crate::Place;
 use scm_sequences::{Lengths, Op, Sequences};
@@ -125,7 +125,9 @@ impl<'a> CutTrace<'a> {
     }
 
     /// What the operation at this place reads, if it reads.
-    pub(crate) fn reading(&self, place: Place) -> Option<Reading> {
+    pub(crate) fn reading(&self, place: Place) -> Option<Reading>
+        ensures { MatchOption result ((cell : ℕ) → read_at self.now place cell ≡ None) (λ read. IsReading self.now place read) }
+    {
         let op = self.operation(place)?;
         let cell = op.cell();
         let value = read_of(op, cell)?;

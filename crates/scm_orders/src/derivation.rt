@@ -1,6 +1,7 @@
 //! Derivations: short refutations, line by line.
-ghost use Rattle.std.specs.Prelude.{◌≡◌};
+ghost use Rattle.std.specs.Prelude.{◌≡◌, ◌<◌, ◌≤◌, ◌+◌, length, MatchOption};
 ghost use Rattle.scm_orders.specs.Facts.{order_of};
+ghost use Rattle.scm_orders.specs.Refuting.{hints_of as hints_in};
 
 use crate::Place;
 
@@ -70,9 +71,16 @@ impl Fact {
 }
 
 impl Derivation {
-    /// The hints of this line, if there are as many.
-    pub(crate) fn hints_of(&self, line: Line) -> Option<&[u32]> {
-        let end = line.first.checked_add(line.count)?;
-        self.hints.get(line.first as usize..end as usize)
+    /// The hints of this line, if they are there.
+    pub(crate) fn hints_of(&self, line: Line) -> Option<&[u32]>
+        ensures { MatchOption result (length self.now.hints < line.first + line.count) (λ hints. (line.first + line.count ≤ length self.now.hints) × (hints.now ≡ hints_in self.now.hints line)) }
+    {
+        let first = line.first as usize;
+        let end = first + line.count as usize;
+        if end <= self.hints.len() {
+            Some(&self.hints[first..end])
+        } else {
+            None
+        }
     }
 }

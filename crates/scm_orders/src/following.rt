@@ -1,24 +1,44 @@
 //! Whether a line follows from the trace and from earlier lines.
+ghost use Rattle.std.specs.Prelude.{ℕ, ◌<◌, ◌↔◌, All, length, IsTrue, IsSomeAnd};
+ghost use Rattle.scm_orders.specs.Facts.{fact_at as known_at};
+ghost use Rattle.scm_orders.specs.Following.{Follows, FollowsBy, HasFewHints, IsOf, AreOperations, IsOrdered, IsHiddenBy, IsHidden, IsBeforeAll, IsWriteBefore, HasReader, IsAfterSource, IsSource};
+
 use crate::candidates::{Left, leaves, writes_what_is_read};
 use crate::cut_trace::CutTrace;
 use crate::showing::{fact_at, is_before, is_joined};
 use crate::{Fact, Line, MOST_HINTS, Place, Rule};
 
-/// Whether the line follows from the trace and the earlier lines, of which these are its hints.
-pub(crate) fn follows(trace: &CutTrace<'_>, earlier: &[Line], hints: &[u32], line: Line) -> bool {
-    hints.iter().all(|hint| (*hint as usize) < earlier.len())
-        && has_few_hints(line)
+/// Whether the line follows from the trace and the earlier lines, with these hints.
+pub(crate) fn follows(trace: &CutTrace<'_>, earlier: &[Line], hints: &[u32], line: Line) -> bool
+    ensures { IsTrue result ↔ Follows trace.now earlier.now hints.now line }
+{
+    are_earlier(earlier.len(), hints)
+        && has_few_hints(line.rule, line.count)
         && is_of(trace, line.fact)
         && follows_by(trace, earlier, hints, line.fact, line.rule)
 }
 
-// Whether the line has no more hints than its rule allows.
-fn has_few_hints(line: Line) -> bool {
-    matches!(line.rule, Rule::Joined) || line.count <= MOST_HINTS
+// Whether the hints are numbers of the first `count` lines.
+fn are_earlier(count: usize, hints: &[u32]) -> bool
+    ensures { IsTrue result ↔ All (λ hint. hint < count) hints.now }
+{
+    hints.iter().all(|hint| (*hint as usize) < count)
+}
+
+// Whether the rule allows this many hints.
+fn has_few_hints(rule: Rule, count: u32) -> bool
+    ensures { IsTrue result ↔ HasFewHints rule count }
+{
+    match rule {
+        Rule::Joined => true,
+        _ => count <= MOST_HINTS,
+    }
 }
 
 // Whether the fact is one of operations of the trace.
-fn is_of(trace: &CutTrace<'_>, fact: Fact) -> bool {
+fn is_of(trace: &CutTrace<'_>, fact: Fact) -> bool
+    ensures { IsTrue result ↔ IsOf trace.now fact }
+{
     match fact {
         Fact::Before { from, to } => are_operations(trace, from, to),
         Fact::Sees { write, read } | Fact::Hidden { write, read } => {
@@ -29,7 +49,9 @@ fn is_of(trace: &CutTrace<'_>, fact: Fact) -> bool {
 }
 
 // Whether there are operations at both places.
-fn are_operations(trace: &CutTrace<'_>, a: Place, b: Place) -> bool {
+fn are_operations(trace: &CutTrace<'_>, a: Place, b: Place) -> bool
+    ensures { IsTrue result ↔ AreOperations trace.now a b }
+{
     trace.operation(a).is_some() && trace.operation(b).is_some()
 }
 
@@ -40,20 +62,25 @@ fn follows_by(
     hints: &[u32],
     fact: Fact,
     rule: Rule,
-) -> bool {
+) -> bool
+    ensures { IsTrue result ↔ FollowsBy trace.now earlier.now hints.now fact rule }
+{
     match fact {
-        Fact::Before { from, to } => is_ordered(trace, earlier, hints, rule, from, to),
+        Fact::Before { from, to } => is_ordered(trace, earlier, hints, from, to, rule),
         Fact::Sees { write, read } => {
-            matches!(rule, Rule::Source) && leaves(trace, earlier, hints, read, Left::Write(write))
+            is_source(rule) && leaves(trace, earlier, hints, read, Left::Write(write))
         }
         Fact::SeesFirst { read } => {
-            matches!(rule, Rule::Source) && leaves(trace, earlier, hints, read, Left::First)
+            is_source(rule) && leaves(trace, earlier, hints, read, Left::First)
         }
-        Fact::Hidden { write, read } => match rule {
-            Rule::Hidden { by } => is_hidden(trace, earlier, hints, by, write, read),
-            _ => false,
-        },
+        Fact::Hidden { write, read } => is_hidden_by(trace, earlier, hints, write, read, rule),
     }
+}
+
+fn is_source(rule: Rule) -> bool
+    ensures { IsTrue result ↔ IsSource rule }
+{
+    matches!(rule, Rule::Source)
 }
 
 // Whether the one operation stands before the other by the rule.
@@ -61,10 +88,12 @@ fn is_ordered(
     trace: &CutTrace<'_>,
     earlier: &[Line],
     hints: &[u32],
-    rule: Rule,
     from: Place,
     to: Place,
-) -> bool {
+    rule: Rule,
+) -> bool
+    ensures { IsTrue result ↔ IsOrdered trace.now earlier.now hints.now from to rule }
+{
     match rule {
         Rule::Joined => is_joined(earlier, hints, from, to),
         Rule::AfterAll => leaves(trace, earlier, hints, to, Left::After(from)),
@@ -74,63 +103,99 @@ fn is_ordered(
     }
 }
 
+// Whether the write is hidden from the read by the rule.
+fn is_hidden_by(
+    trace: &CutTrace<'_>,
+    earlier: &[Line],
+    hints: &[u32],
+    write: Place,
+    read: Place,
+    rule: Rule,
+) -> bool
+    ensures { IsTrue result ↔ IsHiddenBy trace.now earlier.now hints.now write read rule }
+{
+    match rule {
+        Rule::Hidden { by } => is_hidden(trace, earlier, hints, write, read, by),
+        _ => false,
+    }
+}
+
 // Whether `by` writes the cell that is read, and stands between the write and the read.
 fn is_hidden(
     trace: &CutTrace<'_>,
     earlier: &[Line],
     hints: &[u32],
-    by: Place,
     write: Place,
     read: Place,
-) -> bool {
+    by: Place,
+) -> bool
+    ensures { IsTrue result ↔ IsHidden trace.now earlier.now hints.now write read by }
+{
     writes_what_is_read(trace, by, read)
         && is_before(earlier, hints, write, by)
         && is_before(earlier, hints, by, read)
 }
 
-// Whether what is left for `read` to see comes before `write`, another operation, which writes the cell.
+// Whether `write` is another operation, which writes the cell that is read, and what is left for the read to see comes
+// before it.
 fn is_before_all(
     trace: &CutTrace<'_>,
     earlier: &[Line],
     hints: &[u32],
     read: Place,
     write: Place,
-) -> bool {
+) -> bool
+    ensures { IsTrue result ↔ IsBeforeAll trace.now earlier.now hints.now read write }
+{
     read != write
         && writes_what_is_read(trace, write, read)
         && leaves(trace, earlier, hints, read, Left::Before(write))
 }
 
-// Whether by a hint `source` is what a read sees, and `write`, another write of the cell, stands before that read.
+// Whether a hint says that `source` is what a read sees, and `write`, another write of the cell, stands before that read.
 fn is_after_source(
     trace: &CutTrace<'_>,
     earlier: &[Line],
     hints: &[u32],
     write: Place,
     source: Place,
-) -> bool {
+) -> bool
+    ensures { IsTrue result ↔ IsAfterSource trace.now earlier.now hints.now write source }
+{
     write != source
-        && hints.iter().any(|hint| {
-            fact_at(earlier, *hint)
-                .is_some_and(|fact| is_before_reader(trace, earlier, hints, fact, write, source))
-        })
+        && hints
+            .iter()
+            .any(|hint| hint_has_reader(trace, earlier, hints, write, source, *hint))
 }
 
-// Whether the fact says that a read sees `source`, and `write` writes its cell and stands before it.
-fn is_before_reader(
+// Whether this hint does.
+fn hint_has_reader(
     trace: &CutTrace<'_>,
     earlier: &[Line],
     hints: &[u32],
-    fact: Fact,
     write: Place,
     source: Place,
-) -> bool {
-    match fact {
-        Fact::Sees { write: seen, read } => {
-            seen == source
-                && writes_what_is_read(trace, write, read)
-                && is_before(earlier, hints, write, read)
+    hint: u32,
+) -> bool
+    ensures { IsTrue result ↔ IsSomeAnd (known_at earlier.now hint) (HasReader trace.now earlier.now hints.now write source) }
+{
+    match fact_at(earlier, hint) {
+        Some(Fact::Sees { write: seen, read }) => {
+            seen == source && is_write_before(trace, earlier, hints, write, read)
         }
-        Fact::Before { .. } | Fact::SeesFirst { .. } | Fact::Hidden { .. } => false,
+        _ => false,
     }
+}
+
+// Whether the write stands before the read, and writes its cell.
+fn is_write_before(
+    trace: &CutTrace<'_>,
+    earlier: &[Line],
+    hints: &[u32],
+    write: Place,
+    read: Place,
+) -> bool
+    ensures { IsTrue result ↔ IsWriteBefore trace.now earlier.now hints.now write read }
+{
+    writes_what_is_read(trace, write, read) && is_before(earlier, hints, write, read)
 }

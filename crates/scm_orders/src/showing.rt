@@ -1,34 +1,44 @@
-//! What the facts of hints show.
-ghost use Rattle.std.specs.Prelude.{ℕ, ◌≡◌, ◌↔◌, Any, IsTrue, slice_get, IsSomeAnd};
-ghost use Rattle.scm_orders.specs.Facts.{fact_at, SomeHint, Shows, IsBefore, IsJoined, Leads};
+//! What the facts of hints show by themselves and by the order of processes.
+ghost use Rattle.std.specs.Prelude.{◌≡◌, ◌↔◌, IsTrue, IsSomeAnd, option_and_then, if◌then◌else◌};
+ghost use Rattle.scm_orders.specs.Facts.{fact_at as known_at, order_of, Shows, IsBefore, IsJoined, Leads};
 
 use crate::{Fact, Line, Place};
 
-/// The fact of the earlier line with this number, if there is one.
+/// What the earlier line of this number says, if there is one.
 pub(crate) fn fact_at(earlier: &[Line], number: u32) -> Option<Fact>
-    ensures { result ≡ fact_at earlier.now number }
+    ensures { result ≡ known_at earlier.now number }
 {
     Some(earlier.get(number as usize)?.fact)
 }
 
-/// Whether the fact shows that the one operation stands before the other.
+/// Whether the fact puts the one operation before the other, by the order of processes at both ends.
 pub(crate) fn shows(fact: Fact, from: Place, to: Place) -> bool
     ensures { IsTrue result ↔ Shows fact from to }
 {
-    fact.order().is_some_and(|(a, b)| from.is_up_to(a) && b.is_up_to(to))
+    match fact.order() {
+        Some((first, second)) => from.is_up_to(first) && second.is_up_to(to),
+        None => false,
+    }
 }
 
 /// Whether the one operation stands before the other, by the order of their process or by a hint.
 pub(crate) fn is_before(earlier: &[Line], hints: &[u32], from: Place, to: Place) -> bool
     ensures { IsTrue result ↔ IsBefore earlier.now hints.now from to }
 {
-    from.is_earlier(to)
-        || hints
-            .iter()
-            .any(|hint| fact_at(earlier, *hint).is_some_and(|fact| shows(fact, from, to)))
+    from.is_earlier(to) || hints.iter().any(|hint| hint_shows(earlier, *hint, from, to))
 }
 
-/// Whether the hints lead from the one operation to the other. Without hints both are of one process, in this order.
+// Whether this hint puts the one operation before the other.
+fn hint_shows(earlier: &[Line], hint: u32, from: Place, to: Place) -> bool
+    ensures { IsTrue result ↔ IsSomeAnd (known_at earlier.now hint) (λ fact. Shows fact from to) }
+{
+    match fact_at(earlier, hint) {
+        Some(fact) => shows(fact, from, to),
+        None => false,
+    }
+}
+
+/// Whether the hints lead from the one operation to the other; without hints, whether they are two of one process.
 pub(crate) fn is_joined(earlier: &[Line], hints: &[u32], from: Place, to: Place) -> bool
     ensures { IsTrue result ↔ IsJoined earlier.now hints.now from to }
 {
@@ -45,16 +55,17 @@ fn leads(earlier: &[Line], hints: &[u32], from: Place, to: Place) -> bool
 {
     let mut reached = from;
     for hint in hints {
-        match next_reached(earlier, *hint, reached) {
-            Some(next) => reached = next,
-            None => return false,
+        match order_at(earlier, *hint) {
+            Some((next, after)) if reached.is_up_to(next) => reached = after,
+            _ => return false,
         }
     }
     reached.is_up_to(to)
 }
 
-// Where the hint leads to from what is reached, if it does.
-fn next_reached(earlier: &[Line], hint: u32, reached: Place) -> Option<Place> {
-    let (from, to) = fact_at(earlier, hint)?.order()?;
-    reached.is_up_to(from).then_some(to)
+// The order that the earlier line of this number says, if there is one.
+fn order_at(earlier: &[Line], number: u32) -> Option<(Place, Place)>
+    ensures { result ≡ option_and_then order_of (known_at earlier.now number) }
+{
+    fact_at(earlier, number)?.order()
 }
