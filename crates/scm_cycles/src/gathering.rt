@@ -163,16 +163,24 @@ impl<'a> Gathering<'a> {
 
     // The line that joins these steps, from the one operation to the other.
     fn join(&mut self, path: &[u32], from: u32, to: u32) -> Option<u32> {
-        let (from, to) = (self.search.place(from)?, self.search.place(to)?);
+        let key = (from, from, to);
+        if let Some(line) = self.lines.known(key) {
+            return Some(line);
+        }
         let mut hints = Vec::new(self.search.alloc);
         for id in path {
             hints.push(self.line(*id)?).ok()?;
         }
-        self.lines
-            .find_or_add(Fact::Before { from, to }, Rule::Joined, &hints)
+        let (from, to) = (self.search.place(from)?, self.search.place(to)?);
+        let fact = Fact::Before { from, to };
+        self.lines.keep(key, fact, Rule::Joined, &hints)
     }
 
     fn name_hidden(&mut self, write: u32, by: u32, read: u32) -> Option<u32> {
+        let key = (by, write, read);
+        if let Some(line) = self.lines.known(key) {
+            return Some(line);
+        }
         let mut hints = Vec::new(self.search.alloc);
         for (from, to) in [(write, by), (by, read)] {
             if let Some(line) = self.name_order(from, to)? {
@@ -181,8 +189,8 @@ impl<'a> Gathering<'a> {
         }
         let (write, read) = (self.search.place(write)?, self.search.place(read)?);
         let by = self.search.place(by)?;
-        self.lines
-            .find_or_add(Fact::Hidden { write, read }, Rule::Hidden { by }, &hints)
+        let fact = Fact::Hidden { write, read };
+        self.lines.keep(key, fact, Rule::Hidden { by }, &hints)
     }
 
     // Joins the closing step and the way back from its end to its beginning.

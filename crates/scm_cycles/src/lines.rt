@@ -6,11 +6,14 @@ use std::alloc::Global;
 /// The most lines of a derivation.
 const MOST_LINES: usize = 1 << 16;
 
-/// The lines so far.
+/// The operations that a line is about, the one in the midst first: where there is none, that is the first one again.
+type Key = (u32, u32, u32);
+
+/// The lines so far, and which of them may be needed again.
 #[derive(Drop)]
 pub(crate) struct Lines {
     pub(crate) derivation: Derivation,
-    known: IndexMap<(Fact, Rule), u32>,
+    known: IndexMap<Key, u32>,
 }
 
 impl Lines {
@@ -42,15 +45,18 @@ impl Lines {
             count,
         };
         self.derivation.lines.push(line).ok()?;
-        let _ = self.known.insert((fact, rule), number).ok()?;
         Some(number)
     }
 
-    /// The line that says so for the same reason, which is added where it isn't there.
-    pub(crate) fn find_or_add(&mut self, fact: Fact, rule: Rule, hints: &[u32]) -> Option<u32> {
-        match self.known.get(&(fact, rule)) {
-            Some(line) => Some(*line),
-            None => self.add(fact, rule, hints),
-        }
+    /// The line under this key, if there is one.
+    pub(crate) fn known(&self, key: Key) -> Option<u32> {
+        self.known.get(&key).copied()
+    }
+
+    /// Adds a line that may be needed again.
+    pub(crate) fn keep(&mut self, key: Key, fact: Fact, rule: Rule, hints: &[u32]) -> Option<u32> {
+        let number = self.add(fact, rule, hints)?;
+        let _ = self.known.insert(key, number).ok()?;
+        Some(number)
     }
 }
