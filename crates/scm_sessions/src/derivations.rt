@@ -1,8 +1,9 @@
 //! The text of short refutations.
-ghost use Rattle.std.specs.Prelude.{◌≡◌, ◌++◌, codes, flat_map};
+ghost use Rattle.std.specs.Prelude.{◌≡◌, flat_map};
+ghost use Rattle.scm_orders.specs.Refuting.{hints_of as hints_in};
 ghost use Rattle.scm_book.specs.Calls.{cycle};
 ghost use Rattle.scm_sessions.specs.Ports.{inner_of, has_failed, reads_of, Sends};
-ghost use Rattle.scm_sessions.specs.Replies.{place_text, pair_text, fact_text, rule_text, hint_text, hints_of, line_text, reply_text};
+ghost use Rattle.scm_sessions.specs.Replies.{place_text, pair_text, fact_text, rule_text, hint_text, line_text, reply_text};
 
 use crate::port::Port;
 use scm_orders::{Derivation, Fact, Line, Place, Rule};
@@ -10,11 +11,11 @@ use std::io::Write;
 
 /// The hints of a line, among those of its derivation: those that are there.
 fn hints_of(hints: &[u32], line: Line) -> &[u32]
-    ensures { result.now ≡ hints_of hints.now line }
+    ensures { result.now ≡ hints_in hints.now line }
 {
-    let (_, behind) = hints.split_at(hints.len().min(line.first as usize));
-    let (own, _) = behind.split_at(behind.len().min(line.count as usize));
-    own
+    let start = line.first as usize;
+    let end = start + line.count as usize;
+    &hints[start.min(hints.len())..end.min(hints.len())]
 }
 
 impl<W: Write> Port<W> {

@@ -7,4 +7,4 @@ pub mod Auditing
 pub mod Taking
 pub mod Moves
 mod Following
-mod Edges
+mod Lines
