@@ -24,7 +24,8 @@ pub(crate) fn gather(alloc: Global, search: &Search, closing: u32) -> Option<Der
         lines: Lines::new(alloc),
     };
     gathering.gather(closing)?;
-    Some(gathering.lines.derivation)
+    let lines = gathering.lines;
+    Some(lines.derivation)
 }
 
 // The rule of a step's line.

@@ -183,7 +183,8 @@ impl Search {
             let Some(id) = leaving else {
                 break;
             };
-            self.follow(self.steps.get(id)?.to, x, leaving)?;
+            let to = self.steps.get(id)?.to;
+            self.follow(to, x, leaving)?;
             leaving = self.steps.older(id);
         }
         Some(())
@@ -203,7 +204,8 @@ impl Search {
         for process in 0..self.procs {
             let count = self.up_to(x, process)?;
             if self.before(y, process)? < count {
-                self.raise(y, process, count, by.or(self.rises.last(x, process)))?;
+                let by = by.or(self.rises.last(x, process));
+                self.raise(y, process, count, by)?;
                 is_new = true;
             }
         }

@@ -54,7 +54,7 @@ const LISTS: &str = "
     0Wx1 0Ry0 1Wy1 / 1Rx0: 0.1<1.0:before-all 0.0<1.1:joined:0 1.1<1.1:after-all:1 => open
 ";
 
-/// Traces with a derivation of at most five lines, and such with none.
+/// Traces with a derivation of at most eight lines, and such with none.
 const FOUND: &str = "
     store buffering: 0Wx1 0Ry0 1Wy1 1Rx0 => found
     a read of what nobody writes: 0Rx7 => found
@@ -250,7 +250,7 @@ fn short_derivations_are_found(rt: HostRuntime) {
         let (_, trace, wanted) = parts_of(&rt, row);
         let sequences = sequences_in(&rt, rt.alloc(), 4, trace);
         let lines = lines_found(&rt, rt.alloc(), &INITIALS, &sequences);
-        assert!(rt; lines <= 5 && (lines > 0) == (wanted == "found"), "{row}");
+        assert!(rt; lines <= 8 && (lines > 0) == (wanted == "found"), "{row}");
     }
 }
 
