@@ -1,9 +1,10 @@
 -- What is known of the operation at a place from what it read or wrote.
-use Rattle.std.proofs.Common.{ℕ, ◌≡◌, ◌<◌, true, false, List, length, Option, None, Some, IsSome, option_and_then, refl, sym, ap, ◌∙◌, subst, ⊎_elim}
+use Rattle.std.proofs.Common.{ℕ, ◌≡◌, ◌<◌, true, false, List, length, Option, None, Some, IsSome, option_and_then, refl, sym, ap, ap₂, ◌∙◌, subst, ⊎_elim}
 use Rattle.std.proofs.lemmas.Bool.{cases_eq}
 use Rattle.scm_sequences.specs.declared.op.Op.{Op}
 use Rattle.scm_sequences.specs.Ops.{cell_of, read_of, written_to}
-use Rattle.scm_sequences.specs.SequenceLaws.{process_within}
+use Rattle.scm_sequences.specs.Sequences.{operations}
+use Rattle.scm_sequences.specs.SequenceLaws.{process_within, operation_within}
 use Rattle.scm_sequences.specs.FixedLaws.{read_of-other}
 use Rattle.scm_sequences.specs.Traces.{Trace}
 use Rattle.scm_orders.specs.declared.place.Place.{Place}
@@ -35,17 +36,25 @@ one_cell t place a b = go (operation_at t place) where
 
 -- and one value there
 pub one_reading : (t : Trace) (place : Place) (a b : Reading) → IsReading t place a → IsReading t place b → a ≡ b
-one_reading t place a b is_a is_b =
-    let at : a.place ≡ b.place = is_a.at ∙ sym is_b.at in
-    let reads : read_at t b.place a.cell ≡ Some a.value = subst (λ x. read_at t x a.cell ≡ Some a.value) at is_a.reads in
-    let cell : a.cell ≡ b.cell = one_cell t b.place a.cell b.cell (is_some_at (read_at t b.place a.cell) a.value reads) (is_some_at (read_at t b.place b.cell) b.value is_b.reads) in
-    let same : Some a.value ≡ Some b.value = sym reads ∙ ap (read_at t b.place) cell ∙ is_b.reads in
-    let value : a.value ≡ b.value = cc in
-    cc
+one_reading t place a b is_a is_b = ap (λ x. reading_of x a.cell a.value) at ∙ ap₂ (reading_of b.place) cell value where
+  reading_of : Place → ℕ → ℕ → Reading
+  reading_of place cell value = record { place = place; cell = cell; value = value }
+
+  at : a.place ≡ b.place
+  at = is_a.at ∙ sym is_b.at
+
+  reads : read_at t b.place a.cell ≡ Some a.value
+  reads = subst (λ x. read_at t x a.cell ≡ Some a.value) at is_a.reads
+
+  cell : a.cell ≡ b.cell
+  cell = one_cell t b.place a.cell b.cell (is_some_at (read_at t b.place a.cell) a.value reads) (is_some_at (read_at t b.place b.cell) b.value is_b.reads)
+
+  value : a.value ≡ b.value
+  value = let same : Some a.value ≡ Some b.value = sym reads ∙ ap (read_at t b.place) cell ∙ is_b.reads in cc
 
 -- what writes is an operation of a process of the trace
-pub written_within : (t : Trace) (w : Place) (cell value : ℕ) → written_at t w cell ≡ Some value → w.process < length t.sequences
+pub written_within : (t : Trace) (w : Place) (cell value : ℕ) → written_at t w cell ≡ Some value → (w.process < length t.sequences) × (w.at < length (operations t.sequences w.process))
 written_within t w cell value wrote = go (operation_at t w) refl wrote where
-  go : (o : Option Op) → operation_at t w ≡ o → option_and_then (λ op. written_to op cell) o ≡ Some value → w.process < length t.sequences
+  go : (o : Option Op) → operation_at t w ≡ o → option_and_then (λ op. written_to op cell) o ≡ Some value → (w.process < length t.sequences) × (w.at < length (operations t.sequences w.process))
   go None e is = absurd (let f : ◌≡◌ {A = Option ℕ} None (Some value) = is in cc)
-  go (Some op) e is = process_within t.sequences w.process w.at op e
+  go (Some op) e is = (process_within t.sequences w.process w.at op e, operation_within t.sequences w.process w.at op e)

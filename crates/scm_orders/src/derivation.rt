@@ -1,7 +1,6 @@
 //! Derivations: short refutations, line by line.
-ghost use Rattle.std.specs.Prelude.{◌≡◌, ◌<◌, ◌≤◌, ◌+◌, length, MatchOption};
+ghost use Rattle.std.specs.Prelude.{◌≡◌};
 ghost use Rattle.scm_orders.specs.Facts.{order_of};
-ghost use Rattle.scm_orders.specs.Refuting.{hints_of as hints_in};
 
 use crate::Place;
 
@@ -9,7 +8,7 @@ use crate::Place;
 pub const MOST_HINTS: u32 = 255;
 
 /// What a line says of every legal schedule.
-#[derive(Clone, Copy, Debug, PartialEq, Eq, Hash)]
+#[derive(Clone, Copy, Debug, PartialEq, Eq)]
 pub enum Fact {
     /// The one operation stands before the other.
     Before { from: Place, to: Place },
@@ -23,7 +22,7 @@ pub enum Fact {
 }
 
 /// Why a fact follows from the trace and from the facts of its hints.
-#[derive(Clone, Copy, Debug, PartialEq, Eq, Hash)]
+#[derive(Clone, Copy, Debug, PartialEq, Eq)]
 pub enum Rule {
     /// The hints lead from the one operation to the other, one after the other, by the order of processes between them.
     /// With no hints both are of one process, in this order.
@@ -42,7 +41,7 @@ pub enum Rule {
 
 /// A line: what it says, and why. Its hints are numbers of earlier lines: those of its derivation from `first` on, as many
 /// as `count` says.
-#[derive(Clone, Copy, Debug, PartialEq, Eq, Hash)]
+#[derive(Clone, Copy, Debug, PartialEq, Eq)]
 pub struct Line {
     pub fact: Fact,
     pub rule: Rule,
@@ -66,21 +65,6 @@ impl Fact {
             Fact::Before { from, to } => Some((from, to)),
             Fact::Sees { write, read } | Fact::Hidden { write, read } => Some((write, read)),
             Fact::SeesFirst { .. } => None,
-        }
-    }
-}
-
-impl Derivation {
-    /// The hints of this line, if they are there.
-    pub(crate) fn hints_of(&self, line: Line) -> Option<&[u32]>
-        ensures { MatchOption result (length self.now.hints < line.first + line.count) (λ hints. (line.first + line.count ≤ length self.now.hints) × (hints.now ≡ hints_in self.now.hints line)) }
-    {
-        let first = line.first as usize;
-        let end = first + line.count as usize;
-        if end <= self.hints.len() {
-            Some(&self.hints[first..end])
-        } else {
-            None
         }
     }
 }

@@ -1,5 +1,5 @@
 //! The test whether a derivation leaves a trace no schedule.
-ghost use Rattle.std.specs.Prelude.{ℕ, ◌≡◌, ◌<◌, ◌↔◌, IsTrue, length, slice_index_or};
+ghost use Rattle.std.specs.Prelude.{◌<◌, ◌↔◌, IsTrue, length};
 ghost use Rattle.scm_sequences.specs.Traces.{cut_to, trace_of};
 ghost use Rattle.scm_sequences.specs.Fronts.{IsConsistent};
 ghost use Rattle.scm_orders.specs.Refuting.{LineFollows, AllFollow, IsContradiction, Refutes};
@@ -22,18 +22,19 @@ pub fn orders_refute(
     lengths: &Lengths,
     derivation: &Derivation,
 ) -> bool
-    ensures exact { IsTrue result ↔ Refutes (cut_to (trace_of initials.now sequences.now) lengths.now) derivation.now }
+    ensures exact { IsTrue result ↔ Refutes (cut_to (trace_of initials.now sequences.now) lengths.now) derivation.now.lines.items derivation.now.hints.items }
     ensures none { IsTrue result → IsConsistent (cut_to (trace_of initials.now sequences.now) lengths.now) → ⊥ }
 {
-    refute(&CutTrace::new(initials, sequences, lengths), derivation)
+    let trace = CutTrace::new(initials, sequences, lengths);
+    refute(&trace, &derivation.lines, &derivation.hints)
 }
 
-// Whether the derivation refutes the trace.
-fn refute(trace: &CutTrace<'_>, derivation: &Derivation) -> bool
-    ensures { IsTrue result ↔ Refutes trace.now derivation.now }
+// Whether the lines with these hints refute the trace.
+fn refute(trace: &CutTrace<'_>, lines: &[Line], hints: &[u32]) -> bool
+    ensures { IsTrue result ↔ Refutes trace.now lines.now hints.now }
 {
-    match derivation.lines.last() {
-        Some(line) => is_contradiction(line.fact) && all_follow(trace, derivation),
+    match lines.last() {
+        Some(line) => is_contradiction(line.fact) && all_follow(trace, lines, hints),
         None => false,
     }
 }
@@ -49,11 +50,11 @@ fn is_contradiction(fact: Fact) -> bool
 }
 
 // Whether each line follows from the trace and the lines before it.
-fn all_follow(trace: &CutTrace<'_>, derivation: &Derivation) -> bool
-    ensures { IsTrue result ↔ AllFollow trace.now derivation.now }
+fn all_follow(trace: &CutTrace<'_>, lines: &[Line], hints: &[u32]) -> bool
+    ensures { IsTrue result ↔ AllFollow trace.now lines.now hints.now }
 {
-    for k in 0..derivation.lines.len() {
-        if !line_follows(trace, derivation, k, derivation.lines[k]) {
+    for k in 0..lines.len() {
+        if !line_follows(trace, lines, hints, k, lines[k]) {
             return false;
         }
     }
@@ -61,12 +62,17 @@ fn all_follow(trace: &CutTrace<'_>, derivation: &Derivation) -> bool
 }
 
 // Whether this line does as line `k`.
-fn line_follows(trace: &CutTrace<'_>, derivation: &Derivation, k: usize, line: Line) -> bool
-    requires { k < length derivation.now.lines }
-    ensures { IsTrue result ↔ LineFollows trace.now derivation.now k line }
+fn line_follows(
+    trace: &CutTrace<'_>,
+    lines: &[Line],
+    hints: &[u32],
+    k: usize,
+    line: Line,
+) -> bool
+    requires { k < length lines.now }
+    ensures { IsTrue result ↔ LineFollows trace.now lines.now hints.now k line }
 {
-    match derivation.hints_of(line) {
-        Some(hints) => follows(trace, &derivation.lines[..k], hints, line),
-        None => false,
-    }
+    let first = line.first as usize;
+    let end = first + line.count as usize;
+    end <= hints.len() && follows(trace, &lines[..k], &hints[first..end], line)
 }
