@@ -25,13 +25,21 @@ impl Search {
         Some(needs)
     }
 
-    fn add_needs(&self, needs: &mut Vec<Need>, view: &View, share: Share, goal: Goal) -> Option<()> {
+    fn add_needs(
+        &self,
+        needs: &mut Vec<Need>,
+        view: &View,
+        share: Share,
+        goal: Goal,
+    ) -> Option<()> {
         if let Some(write) = share.hidden {
             needs.push(self.hiding(view, write)?).ok()?;
         }
         if let Some((first, last)) = share.left {
             match goal {
-                Goal::After(from) if from != first => needs.push(Need::Order { from, to: first }).ok()?,
+                Goal::After(from) if from != first => needs
+                    .push(Need::Order { from, to: first })
+                    .ok()?,
                 Goal::Before(to) => needs.push(Need::Order { from: last, to }).ok()?,
                 _ => {}
             }
@@ -54,7 +62,11 @@ impl Search {
         }
         for by in view.last_writes.iter().flatten() {
             if self.is_before(write, *by)? {
-                return Some(Need::Hidden { write, by: *by, read });
+                return Some(Need::Hidden {
+                    write,
+                    by: *by,
+                    read,
+                });
             }
         }
         None
@@ -63,12 +75,18 @@ impl Search {
     // What rules out first contents, where they aren't known to be another value: a write that hides others too, or any
     // before the read, or what another read tells.
     fn add_first(&self, needs: &mut Vec<Need>, view: &View) -> Option<()> {
-        let is_known = self.values.first(view.cell)?.is_some_and(|first| first != view.value);
+        let is_known = self
+            .values
+            .first(view.cell)?
+            .is_some_and(|first| first != view.value);
         if is_known || needs.iter().any(|need| matches!(need, Need::Hiding { .. })) {
             return Some(());
         }
         let need = match view.last_writes.iter().flatten().next() {
-            Some(from) => Need::Hiding { from: *from, to: view.read },
+            Some(from) => Need::Hiding {
+                from: *from,
+                to: view.read,
+            },
             None => Need::Step((*self.firsts.get(view.cell as usize)?)?.1),
         };
         needs.push(need).ok()

@@ -132,7 +132,8 @@ impl Search {
         if owner == process {
             return None;
         }
-        self.numbering.number(process, self.writes.from(process, cell, place)?)
+        self.numbering
+            .number(process, self.writes.from(process, cell, place)?)
     }
 
     // Draws what follows from a write that is seen.
@@ -153,7 +154,13 @@ impl Search {
     }
 
     // Another write of the cell that comes before the read comes before its source.
-    fn draw_after_source(&mut self, read: u32, write: u32, source: u32, last: Option<u32>) -> Option<()> {
+    fn draw_after_source(
+        &mut self,
+        read: u32,
+        write: u32,
+        source: u32,
+        last: Option<u32>,
+    ) -> Option<()> {
         if let Some(from) = last
             && from != write
             && !self.is_before(from, write)?
@@ -165,7 +172,13 @@ impl Search {
     }
 
     // The read comes before another write of the cell that comes after its source.
-    fn draw_before_next(&mut self, read: u32, write: u32, source: u32, next: Option<u32>) -> Option<()> {
+    fn draw_before_next(
+        &mut self,
+        read: u32,
+        write: u32,
+        source: u32,
+        next: Option<u32>,
+    ) -> Option<()> {
         if let Some(to) = next
             && !self.is_before(read, to)?
         {

@@ -1,5 +1,6 @@
 //! What was drawn, step by step.
 use std::alloc::Global;
+use std::ops::Range;
 
 /// By which rule a step was drawn: the read `to` sees the write `from`; it sees first contents; what is left for the read
 /// `to` comes after `from`; what is left for the read `from` comes before the write `to`; a read that sees the write `to`
@@ -62,14 +63,17 @@ impl Steps {
         self.list.get(id as usize).copied()
     }
 
-    /// What a step follows from.
-    pub(crate) fn needs(&self, id: u32) -> Option<&[Need]> {
+    /// The numbers of what a step follows from.
+    pub(crate) fn needs(&self, id: u32) -> Option<Range<u32>> {
         let start = match id.checked_sub(1) {
             Some(before) => self.get(before)?.needs_end,
             None => 0,
         };
-        let end = self.get(id)?.needs_end;
-        self.needs.get(start as usize..end as usize)
+        Some(start..self.get(id)?.needs_end)
+    }
+
+    pub(crate) fn need(&self, number: u32) -> Option<Need> {
+        self.needs.get(number as usize).copied()
     }
 
     /// Adds one, and gives its number.

@@ -99,12 +99,28 @@ impl Search {
         let low = count(self.hidden_before(view, process)?)?;
         let (owner, at) = self.numbering.spot(view.read)?;
         let is_own = owner == process;
-        let high = count(if is_own { at } else { self.after(view.read, process)? })?;
+        let high = count(if is_own {
+            at
+        } else {
+            self.after(view.read, process)?
+        })?;
         let get = |place: usize| self.writers.of(view.value)?.get(place).copied();
         let share = Share {
-            hidden: if begin < low { get(low.checked_sub(1)?) } else { None },
-            left: if low < high { Some((get(low)?, get(high.checked_sub(1)?)?)) } else { None },
-            later: if high < end && !is_own { get(high) } else { None },
+            hidden: if begin < low {
+                get(low.checked_sub(1)?)
+            } else {
+                None
+            },
+            left: if low < high {
+                Some((get(low)?, get(high.checked_sub(1)?)?))
+            } else {
+                None
+            },
+            later: if high < end && !is_own {
+                get(high)
+            } else {
+                None
+            },
         };
         view.shares.push(share).ok()
     }

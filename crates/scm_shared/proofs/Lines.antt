@@ -1,5 +1,5 @@
 -- Whether `==` of lines says that they are the same.
-use Rattle.std.proofs.Common.{rules, ◌≡◌}
+use Rattle.std.proofs.Common.{rules, ◌≡◌, Bool, ◌&&◌, ◌==◌}
 use Rattle.std.specs.Bool.{Decides}
 use Rattle.scm_orders.specs.declared.place.Place.{Place}
 use Rattle.scm_orders.specs.declared.derivation.Fact.{Fact}
@@ -29,5 +29,9 @@ rule_eq-Decides AfterAll b = search rules
 rule_eq-Decides BeforeAll b = search rules
 rule_eq-Decides AfterSource b = search rules
 
+line_Decides : (fact rule : Bool) (a b : Line) → Decides fact (a.fact ≡ b.fact) → Decides rule (a.rule ≡ b.rule)
+    → Decides (fact && (rule && (a.first == b.first && a.count == b.count))) (a ≡ b)
+line_Decides fact rule a b facts_are rules_are = search rules
+
 pub line_eq-Decides : (a b : Line) → Decides (lines.ghosts.eq a b) (a ≡ b)
-line_eq-Decides a b = search (rules, fact_eq-Decides, rule_eq-Decides)
+line_eq-Decides a b = line_Decides _ _ a b (fact_eq-Decides a.fact b.fact) (rule_eq-Decides a.rule b.rule)
