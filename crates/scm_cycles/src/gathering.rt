@@ -7,8 +7,8 @@ use std::alloc::Global;
 
 /// Which steps are needed, by number, and the line that each was written as.
 #[derive(Drop)]
-struct Gathering {
-    alloc: Global,
+struct Gathering<'a> {
+    search: &'a Search,
     is_needed: Vec<bool>,
     line_of: Vec<Option<u32>>,
     lines: Lines,
@@ -18,12 +18,12 @@ struct Gathering {
 pub(crate) fn gather(alloc: Global, search: &Search, closing: u32) -> Option<Derivation> {
     let count = closing.checked_add(1)?;
     let mut gathering = Gathering {
-        alloc,
+        search,
         is_needed: vec![in alloc; false; count as usize].ok()?,
         line_of: vec![in alloc; None; count as usize].ok()?,
         lines: Lines::new(alloc),
     };
-    gathering.gather(search, closing)?;
+    gathering.gather(closing)?;
     let lines = gathering.lines;
     Some(lines.derivation)
 }
@@ -38,17 +38,17 @@ fn rule_of(why: Why) -> Rule {
     }
 }
 
-impl Gathering {
-    fn gather(&mut self, search: &Search, closing: u32) -> Option<()> {
-        let Step { from, to, .. } = search.steps.get(closing)?;
+impl<'a> Gathering<'a> {
+    fn gather(&mut self, closing: u32) -> Option<()> {
+        let Step { from, to, .. } = self.search.steps.get(closing)?;
         self.mark(closing)?;
         if from != to {
-            self.mark_path(search, to, from)?;
+            self.mark_path(to, from)?;
         }
-        self.mark_all(search, closing)?;
-        self.write_all(search, closing)?;
+        self.mark_all(closing)?;
+        self.write_all(closing)?;
         if from != to {
-            self.close(search, closing, from, to)?;
+            self.close(closing, from, to)?;
         }
         Some(())
     }
@@ -58,34 +58,32 @@ impl Gathering {
         Some(())
     }
 
-    fn mark_path(&mut self, search: &Search, from: u32, to: u32) -> Option<()> {
-        for id in &search.path(from, to)? {
+    fn mark_path(&mut self, from: u32, to: u32) -> Option<()> {
+        for id in &self.search.path(from, to)? {
             self.mark(*id)?;
         }
         Some(())
     }
 
     // Marks what is needed, from the newest step on.
-    fn mark_all(&mut self, search: &Search, closing: u32) -> Option<()> {
+    fn mark_all(&mut self, closing: u32) -> Option<()> {
         for back in 0..=closing {
             let id = closing.checked_sub(back)?;
             if *self.is_needed.get(id as usize)? {
-                self.mark_needs(search, id)?;
+                self.mark_needs(id)?;
             }
         }
         Some(())
     }
 
-    fn mark_needs(&mut self, search: &Search, id: u32) -> Option<()> {
-        for at in search.steps.needs(id)? {
-            match search.steps.need(at)? {
+    fn mark_needs(&mut self, id: u32) -> Option<()> {
+        for at in self.search.steps.needs(id)? {
+            match self.search.steps.need(at)? {
                 Need::Step(id) => self.mark(id)?,
-                Need::Order { from, to } | Need::Hiding { from, to } => self.mark_path(
-                    search, from, to,
-                )?,
+                Need::Order { from, to } | Need::Hiding { from, to } => self.mark_path(from, to)?,
                 Need::Hidden { write, by, read } => {
-                    self.mark_path(search, write, by)?;
-                    self.mark_path(search, by, read)?;
+                    self.mark_path(write, by)?;
+                    self.mark_path(by, read)?;
                 }
             }
         }
@@ -93,35 +91,34 @@ impl Gathering {
     }
 
     // Writes what is needed, from the oldest step on.
-    fn write_all(&mut self, search: &Search, closing: u32) -> Option<()> {
+    fn write_all(&mut self, closing: u32) -> Option<()> {
         for id in 0..=closing {
             if *self.is_needed.get(id as usize)? {
-                self.write(search, id)?;
+                self.write(id)?;
             }
         }
         Some(())
     }
 
-    fn write(&mut self, search: &Search, id: u32) -> Option<()> {
-        let step = search.steps.get(id)?;
-        let mut hints = Vec::new(self.alloc);
-        for at in search.steps.needs(id)? {
-            let need = search.steps.need(at)?;
-            if let Some(line) = self.name(search, need)?
+    fn write(&mut self, id: u32) -> Option<()> {
+        let step = self.search.steps.get(id)?;
+        let mut hints = Vec::new(self.search.alloc);
+        for at in self.search.steps.needs(id)? {
+            let need = self.search.steps.need(at)?;
+            if let Some(line) = self.name(need)?
                 && !hints.contains(&line)
             {
                 hints.push(line).ok()?;
             }
         }
-        let line = self
-            .lines
-            .add(self.fact_of(search, step)?, rule_of(step.why), &hints)?;
+        let fact = self.fact_of(step)?;
+        let line = self.lines.add(fact, rule_of(step.why), &hints)?;
         *self.line_of.get_mut(id as usize)? = Some(line);
         Some(())
     }
 
-    fn fact_of(&self, search: &Search, step: Step) -> Option<Fact> {
-        let (from, to) = (search.place(step.from)?, search.place(step.to)?);
+    fn fact_of(&self, step: Step) -> Option<Fact> {
+        let (from, to) = (self.search.place(step.from)?, self.search.place(step.to)?);
         Some(match step.why {
             Why::Source => Fact::Sees {
                 write: from,
@@ -137,80 +134,82 @@ impl Gathering {
     }
 
     // The line that shows what is needed: none where the order of a process does.
-    fn name(&mut self, search: &Search, need: Need) -> Option<Option<u32>> {
+    fn name(&mut self, need: Need) -> Option<Option<u32>> {
         Some(match need {
             Need::Step(id) => Some(self.line(id)?),
-            Need::Order { from, to } => self.name_order(search, from, to)?,
-            Need::Hiding { from, to } => Some(self.name_from(search, from, to)?),
-            Need::Hidden { write, by, read } => Some(self.name_hidden(search, write, by, read)?),
+            Need::Order { from, to } => self.name_order(from, to)?,
+            Need::Hiding { from, to } => Some(self.name_from(from, to)?),
+            Need::Hidden { write, by, read } => Some(self.name_hidden(write, by, read)?),
         })
     }
 
-    fn name_order(&mut self, search: &Search, from: u32, to: u32) -> Option<Option<u32>> {
-        let path = search.path(from, to)?;
+    fn name_order(&mut self, from: u32, to: u32) -> Option<Option<u32>> {
+        let path = self.search.path(from, to)?;
         match path.first() {
             Some(id) if path.len() == 1 => Some(Some(self.line(*id)?)),
             Some(id) => {
-                let from = search.steps.get(*id)?.from;
-                Some(Some(self.join(search, &path, from, to)?))
+                let from = self.search.steps.get(*id)?.from;
+                Some(Some(self.join(&path, from, to)?))
             }
             None => Some(None),
         }
     }
 
     // By a line that begins at the one operation.
-    fn name_from(&mut self, search: &Search, from: u32, to: u32) -> Option<u32> {
-        let path = search.path(from, to)?;
+    fn name_from(&mut self, from: u32, to: u32) -> Option<u32> {
+        let path = self.search.path(from, to)?;
         match path.first() {
-            Some(id) if path.len() == 1 && search.steps.get(*id)?.from == from => self.line(*id),
-            _ => self.join(search, &path, from, to),
+            Some(id) if path.len() == 1 && self.search.steps.get(*id)?.from == from => self.line(
+                *id,
+            ),
+            _ => self.join(&path, from, to),
         }
     }
 
     // The line that joins these steps, from the one operation to the other.
-    fn join(&mut self, search: &Search, path: &[u32], from: u32, to: u32) -> Option<u32> {
+    fn join(&mut self, path: &[u32], from: u32, to: u32) -> Option<u32> {
         let key = (from, from, to);
         if let Some(line) = self.lines.known(key) {
             return Some(line);
         }
-        let mut hints = Vec::new(self.alloc);
+        let mut hints = Vec::new(self.search.alloc);
         for id in path {
             hints.push(self.line(*id)?).ok()?;
         }
-        let (from, to) = (search.place(from)?, search.place(to)?);
+        let (from, to) = (self.search.place(from)?, self.search.place(to)?);
         let fact = Fact::Before { from, to };
         self.lines.keep(key, fact, Rule::Joined, &hints)
     }
 
-    fn name_hidden(&mut self, search: &Search, write: u32, by: u32, read: u32) -> Option<u32> {
+    fn name_hidden(&mut self, write: u32, by: u32, read: u32) -> Option<u32> {
         let key = (by, write, read);
         if let Some(line) = self.lines.known(key) {
             return Some(line);
         }
-        let mut hints = Vec::new(self.alloc);
+        let mut hints = Vec::new(self.search.alloc);
         for (from, to) in [(write, by), (by, read)] {
-            if let Some(line) = self.name_order(search, from, to)? {
+            if let Some(line) = self.name_order(from, to)? {
                 hints.push(line).ok()?;
             }
         }
-        let (write, read) = (search.place(write)?, search.place(read)?);
-        let by = search.place(by)?;
+        let (write, read) = (self.search.place(write)?, self.search.place(read)?);
+        let by = self.search.place(by)?;
         let fact = Fact::Hidden { write, read };
         self.lines.keep(key, fact, Rule::Hidden { by }, &hints)
     }
 
     // Joins the closing step and the way back from its end to its beginning.
-    fn close(&mut self, search: &Search, closing: u32, from: u32, to: u32) -> Option<()> {
-        let path = search.path(to, from)?;
+    fn close(&mut self, closing: u32, from: u32, to: u32) -> Option<()> {
+        let path = self.search.path(to, from)?;
         if path.is_empty() {
             return Some(());
         }
-        let mut hints = Vec::new(self.alloc);
+        let mut hints = Vec::new(self.search.alloc);
         hints.push(self.line(closing)?).ok()?;
         for id in &path {
             hints.push(self.line(*id)?).ok()?;
         }
-        let place = search.place(from)?;
+        let place = self.search.place(from)?;
         let fact = Fact::Before {
             from: place,
             to: place,
