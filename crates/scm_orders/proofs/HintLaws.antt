@@ -1,5 +1,5 @@
 -- Hints, one after the other and in two parts.
-use Rattle.std.proofs.Common.{ℕ, ◌≡◌, ◌+◌, ◌-◌, ◌<◌, ◌≤◌, ◌⊎◌, ◌↔◌, min, List, [], ◌∷◌, length, take, drop, get_or, Option, None, Some, IsSomeAnd, option_and_then, slice_index_or, sym, ap, ◌∙◌, subst, ⊎_elim, inl, inr, arith}
+use Rattle.std.proofs.Common.{ℕ, ◌≡◌, ◌+◌, ◌-◌, ◌<◌, ◌≤◌, ◌⊎◌, ◌↔◌, min, List, length, take, drop, Option, None, Some, IsSomeAnd, option_and_then, slice_index_or, sym, ap, ◌∙◌, subst, ⊎_elim, inl, inr, arith}
 use Rattle.std.specs.List.{Any}
 use Rattle.std.proofs.lemmas.Bool.{cases_lt}
 use Rattle.std.proofs.lemmas.List.{drop_more, drop_all, length-take, length-drop, get_or-take, get_or-drop, take_rest}
@@ -52,8 +52,8 @@ any_dropped P n xs some =
 pub any_parted : (P : ℕ → Type 0) (n : ℕ) (xs : List ℕ) → Any P xs → Any P (take (length xs - n) (drop n xs)) ⊎ Any P (take n xs)
 any_parted P n xs some = ⊎_elim
     (λ sooner. inr (let short : length (take n xs) ≡ min n (length xs) = length-take n xs in let inside : some.0 < length xs = some.2 in
-        (some.0, some.1, omega arith, get_or-take n xs some.0 some.1 sooner ∙ some.3, some.4)))
+    (some.0, some.1, omega arith, get_or-take n xs some.0 some.1 sooner ∙ some.3, some.4)))
     (λ later. inl (let short : length (drop n xs) ≡ length xs - n = length-drop n xs in let inside : some.0 < length xs = some.2 in
-        let sum : n + (some.0 - n) ≡ some.0 = omega arith in
-        subst (Any P) (sym (take_rest xs n)) (some.0 - n, some.1, omega arith, get_or-drop n xs (some.0 - n) some.1 ∙ ap (λ k. slice_index_or xs k some.1) sum ∙ some.3, some.4)))
+    let sum : n + (some.0 - n) ≡ some.0 = omega arith in
+    subst (Any P) (sym (take_rest xs n)) (some.0 - n, some.1, omega arith, get_or-drop n xs (some.0 - n) some.1 ∙ ap (λ k. slice_index_or xs k some.1) sum ∙ some.3, some.4)))
     (cases_lt some.0 n)

@@ -1,5 +1,5 @@
 -- What is known of the operation at a place from what it read or wrote.
-use Rattle.std.proofs.Common.{ℕ, ◌≡◌, ◌<◌, true, false, List, length, Option, None, Some, IsSome, option_and_then, refl, sym, ap, ap₂, ◌∙◌, subst, ⊎_elim}
+use Rattle.std.proofs.Common.{ℕ, ◌≡◌, ◌<◌, true, false, length, Option, None, Some, IsSome, option_and_then, refl, sym, ap, ap₂, ◌∙◌, subst, ⊎_elim}
 use Rattle.std.proofs.lemmas.Bool.{cases_eq}
 use Rattle.scm_sequences.specs.declared.op.Op.{Op}
 use Rattle.scm_sequences.specs.Ops.{cell_of, read_of, written_to}

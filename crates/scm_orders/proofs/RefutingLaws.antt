@@ -1,12 +1,11 @@
 -- Lines that follow say what is so in every schedule, so a derivation that refutes leaves none.
-use Rattle.std.proofs.Common.{ℕ, zero, suc, ◌≡◌, ◌-◌, ◌<◌, ◌≤◌, min, List, length, take, Option, None, Some, IsSomeAnd, All, slice_get, slice_index_or, refl, sym, ◌∙◌, subst, arith}
+use Rattle.std.proofs.Common.{ℕ, zero, suc, ◌≡◌, ◌-◌, ◌<◌, min, List, length, take, Option, None, Some, IsSomeAnd, All, slice_get, slice_index_or, refl, sym, ◌∙◌, subst, arith}
 use Rattle.std.proofs.lemmas.List.{length-take, get_or-take}
 use Rattle.std.proofs.lemmas.Option.{get_or_from_slice_get, slice_get_within, slice_get-get_or}
 use Rattle.scm_sequences.specs.Traces.{Trace}
 use Rattle.scm_sequences.specs.Fronts.{IsSchedule, IsConsistent}
 use Rattle.scm_orders.specs.declared.derivation.Line.{Line}
-use Rattle.scm_orders.specs.Places.{IsUpTo}
-use Rattle.scm_orders.specs.Moments.{moment, Says}
+use Rattle.scm_orders.specs.Moments.{Says}
 use Rattle.scm_orders.specs.Refuting.{hints_of, AllFollow, IsContradiction, Refutes}
 use Rattle.scm_orders.proofs.RuleLaws.{Holds, follows_holds, contradicts}
 

@@ -1,6 +1,5 @@
 -- Each rule holds: in a schedule in which the facts of the hints are so, so is a fact that follows from them.
-use Rattle.std.proofs.Common.{ℕ, ◌≡◌, ◌≢◌, ◌+◌, ◌<◌, ◌≤◌, ◌⊎◌, List, [], ◌∷◌, length, Option, None, Some, IsSome, IsSomeAnd, option_and_then, slice_get, slice_index, refl, sym, ap, ap₂, ◌∙◌, subst, ⊎_elim, inl, inr, arith}
-use Rattle.std.specs.List.{Any}
+use Rattle.std.proofs.Common.{ℕ, ◌≡◌, ◌≢◌, ◌<◌, ◌≤◌, ◌⊎◌, List, [], ◌∷◌, length, Option, None, Some, IsSome, IsSomeAnd, option_and_then, slice_get, slice_index, refl, sym, ap, ap₂, ◌∙◌, subst, ⊎_elim, inl, inr, arith}
 use Rattle.std.specs.Option.{option_or, option_map}
 use Rattle.std.proofs.lemmas.Bool.{cases_lt}
 use Rattle.scm_sequences.specs.declared.op.Op.{Op}
@@ -20,10 +19,10 @@ use Rattle.scm_orders.specs.declared.derivation.Rule.TheVariants.{Joined, Hidden
 use Rattle.scm_orders.specs.declared.candidates.Left.{Left}
 use Rattle.scm_orders.specs.declared.candidates.Left.TheVariants.{Write, First, After, Before as Until}
 use Rattle.scm_orders.specs.Places.{IsUpTo, IsEarlier, operation_at, read_at, written_at, ReadsOther, WritesWhatIsRead}
-use Rattle.scm_orders.specs.Facts.{order_of, Shows, fact_at, SomeHint, IsBefore, Leads, IsJoined}
+use Rattle.scm_orders.specs.Facts.{order_of, Shows, SomeHint, IsBefore, Leads, IsJoined}
 use Rattle.scm_orders.specs.Moments.{moment, IsLastBefore, HasNoneBefore, HasWriteBetween, ReadsCell, Says}
-use Rattle.scm_orders.specs.Candidates.{Overwrites, Denies, RulesOut, PutsWriteBefore, SaysOtherFirst, RulesOutFirst, HasFirst, Has, HasBy, LeavesOnly, Leaves}
-use Rattle.scm_orders.specs.Following.{IsHidden, IsBeforeAll, IsWriteBefore, HasReader, IsAfterSource, IsOrdered, IsHiddenBy, FollowsBy, IsOf, Follows}
+use Rattle.scm_orders.specs.Candidates.{Overwrites, Denies, RulesOut, SaysOtherFirst, RulesOutFirst, HasFirst, Has, HasBy, LeavesOnly, Leaves}
+use Rattle.scm_orders.specs.Following.{IsHidden, IsBeforeAll, HasReader, IsOrdered, IsHiddenBy, FollowsBy, IsOf, Follows}
 use Rattle.scm_orders.specs.Refuting.{IsContradiction}
 use Rattle.scm_orders.proofs.PlaceLaws.{none_is, is_some_at, some_first, one_cell}
 use Rattle.scm_orders.proofs.MomentLaws.{place_of, IsIn, moment-injective, moment-rises}
@@ -140,27 +139,27 @@ module _ (t : Trace) (s : List ℕ) (schedule : IsSchedule t s) where
   overwritten : (fact : Fact) (read : Reading) (w : Place) → IsIn s read.place → Holds t s fact → Overwrites t fact read w → IsLastBefore t s read.cell w read.place → ⊥
   overwritten fact read w in_read holds out seen = by_order fact (λ order. IsEarlier w order.0 × IsSome (written_at t order.0 read.cell) × IsUpTo order.1 read.place) ⊥ holds
       (λ a b in_a in_b less both.
-          let sooner : moment s w < moment s a = rises w a in_a both.0 in
-          let later : moment s b ≤ moment s read.place = up_to b read.place in_read both.2 in
-          let last : moment s a ≤ moment s w = seen.last a both.1 (omega arith) in
-          omega arith)
+      let sooner : moment s w < moment s a = rises w a in_a both.0 in
+      let later : moment s b ≤ moment s read.place = up_to b read.place in_read both.2 in
+      let last : moment s a ≤ moment s w = seen.last a both.1 (omega arith) in
+      omega arith)
       out
 
   denied : (fact : Fact) (read : Reading) (w : Place) → IsSome (read_at t read.place read.cell) → Holds t s fact → Denies fact read.place w → IsLastBefore t s read.cell w read.place → ⊥
   denied (Before a b) read w reads holds out seen = absurd out
   denied (Sees w' r) read w reads holds out seen =
       let other : IsLastBefore t s read.cell w' read.place = of_cell (λ cell. IsLastBefore t s cell w' read.place) read.place read.cell reads
-          (subst (λ r. ReadsCell t r (λ cell. IsLastBefore t s cell w' r)) out.0 holds.says) in
+      (subst (λ r. ReadsCell t r (λ cell. IsLastBefore t s cell w' r)) out.0 holds.says) in
       let one : moment s w' ≤ moment s w = seen.last w' other.writes other.before in
       let two : moment s w ≤ moment s w' = other.last w seen.writes seen.before in
       out.1 (moment-injective s w' w (writes_in w' read.cell other.writes) (writes_in w read.cell seen.writes) (omega arith))
   denied (SeesFirst r) read w reads holds out seen =
       let none : HasNoneBefore t s read.cell read.place = of_cell (λ cell. HasNoneBefore t s cell read.place) read.place read.cell reads
-          (subst (λ r. ReadsCell t r (λ cell. HasNoneBefore t s cell r)) out holds.says) in
+      (subst (λ r. ReadsCell t r (λ cell. HasNoneBefore t s cell r)) out holds.says) in
       omega (arith, none.none w seen.writes, seen.before)
   denied (Hidden w' r) read w reads holds out seen =
       let between : HasWriteBetween t s read.cell w' read.place = of_cell (λ cell. HasWriteBetween t s cell w' read.place) read.place read.cell reads
-          (subst (λ r. ReadsCell t r (λ cell. HasWriteBetween t s cell w' r)) out.0 holds.says) in
+      (subst (λ r. ReadsCell t r (λ cell. HasWriteBetween t s cell w' r)) out.0 holds.says) in
       let up : moment s w ≤ moment s w' = up_to w w' (is_in w' holds.of.one) out.1 in
       let last : moment s between.write ≤ moment s w = seen.last between.write between.writes between.before in
       omega (arith, up, last, between.after)
@@ -181,7 +180,7 @@ module _ (t : Trace) (s : List ℕ) (schedule : IsSchedule t s) where
   first_ruled_out : (fact : Fact) (read : Reading) → read_at t read.place read.cell ≡ Some read.value → Holds t s fact → RulesOutFirst t fact read → HasNoneBefore t s read.cell read.place → ⊥
   first_ruled_out fact read reads holds out none = ⊎_elim
       (by_order fact (λ order. IsSome (written_at t order.0 read.cell) × IsUpTo order.1 read.place) ⊥ holds
-          (λ a b in_a in_b less both. omega (arith, none.none a both.0, less, up_to b read.place (reads_in read.place read.cell (is_some_at (read_at t read.place read.cell) read.value reads)) both.1)))
+      (λ a b in_a in_b less both. omega (arith, none.none a both.0, less, up_to b read.place (reads_in read.place read.cell (is_some_at (read_at t read.place read.cell) read.value reads)) both.1)))
       (λ other. other_said fact read reads holds other none)
       out
 
@@ -226,13 +225,13 @@ module _ (t : Trace) (s : List ℕ) (schedule : IsSchedule t s) where
     write_left left read reads only w wrote seen = ⊎_elim
         (λ behind. absurd (omega (arith, up_to read.place w (writes_in w read.cell seen.writes) behind, seen.before)))
         (⊎_elim inl (by_hint (λ fact. RulesOut t fact read w ⊎ HasBy left fact w) (IsLeft left w)
-            (λ fact holds is. ⊎_elim (λ out. absurd (ruled_out fact read w reads holds out seen)) (λ by. inr (fact, holds, by)) is)))
+        (λ fact holds is. ⊎_elim (λ out. absurd (ruled_out fact read w reads holds out seen)) (λ by. inr (fact, holds, by)) is)))
         (only.writes w wrote)
 
     first_left : (left : Left) (read : Reading) → read_at t read.place read.cell ≡ Some read.value → LeavesOnly t earlier hints left read → HasNoneBefore t s read.cell read.place → HasFirst left
     first_left left read reads only none = ⊎_elim (λ has. has)
         (⊎_elim (λ other. absurd (differs (initial_of t read.cell) refl other))
-            (by_hint (λ fact. RulesOutFirst t fact read) (HasFirst left) (λ fact holds out. absurd (first_ruled_out fact read reads holds out none))))
+        (by_hint (λ fact. RulesOutFirst t fact read) (HasFirst left) (λ fact holds out. absurd (first_ruled_out fact read reads holds out none))))
         only.first where
           differs : (o : Option ℕ) → initial_of t read.cell ≡ o → IsSomeAnd o (λ v. v ≢ read.value) → ⊥
           differs None e other = absurd other
@@ -265,23 +264,23 @@ module _ (t : Trace) (s : List ℕ) (schedule : IsSchedule t s) where
     after_rule : (a read : Place) → Leaves t earlier hints read (After a) → moment s a < moment s read
     after_rule a read = what_is_left read (After a) (λ r. moment s a < moment s r)
         (λ r k reads left seen. let in_k : IsIn s k = writes_in k r.cell seen.writes in
-            let later : moment s a ≤ moment s k = ⊎_elim (up_to a k in_k) (λ by. let less : moment s a < moment s k = shows by.0 a k in_k by.1 by.2 in omega arith) left in
-            omega (arith, later, seen.before))
+        let later : moment s a ≤ moment s k = ⊎_elim (up_to a k in_k) (λ by. let less : moment s a < moment s k = shows by.0 a k in_k by.1 by.2 in omega arith) left in
+        omega (arith, later, seen.before))
         (λ r reads has none. absurd has)
 
     before_rule : (read write : Place) → IsBeforeAll t earlier hints read write → moment s read < moment s write
     before_rule read write is = strictly read write (reads_in read is.writes.cell is.writes.reads) (writes_in write is.writes.cell is.writes.writes) is.other
         (what_is_left read (Until write) (λ r. WritesWhatIsRead t write r → moment s r ≤ moment s write)
-            (λ r k reads left seen writes. ⊎_elim
-                (λ sooner.
-                    let last : moment s write ≤ moment s k = seen.last write (writes_cell write r.place r.cell reads writes) sooner in
-                    let in_write : IsIn s write = writes_in write writes.cell writes.writes in
-                    let less : moment s k < moment s write = ⊎_elim (rises k write in_write) (λ by. shows by.0 k write in_write by.1 by.2) left in
-                    absurd (omega arith))
-                (λ later. later)
-                (cases_lt (moment s write) (moment s r.place)))
-            (λ r reads has none writes. none.none write (writes_cell write r.place r.cell reads writes))
-            is.left is.writes)
+        (λ r k reads left seen writes. ⊎_elim
+        (λ sooner.
+        let last : moment s write ≤ moment s k = seen.last write (writes_cell write r.place r.cell reads writes) sooner in
+        let in_write : IsIn s write = writes_in write writes.cell writes.writes in
+        let less : moment s k < moment s write = ⊎_elim (rises k write in_write) (λ by. shows by.0 k write in_write by.1 by.2) left in
+        absurd (omega arith))
+        (λ later. later)
+        (cases_lt (moment s write) (moment s r.place)))
+        (λ r reads has none writes. none.none write (writes_cell write r.place r.cell reads writes))
+        is.left is.writes)
 
     has_reader : (write source : Place) (fact : Fact) → write ≢ source → Holds t s fact → HasReader t earlier hints write source fact → moment s write < moment s source
     has_reader write source (Before a b) other holds is = absurd is
@@ -289,17 +288,21 @@ module _ (t : Trace) (s : List ℕ) (schedule : IsSchedule t s) where
         let last : IsLastBefore t s is.1.writes.cell seen read = of_cell (λ cell. IsLastBefore t s cell seen read) read is.1.writes.cell is.1.writes.reads holds.says in
         let sooner : moment s write < moment s read = before write read (reads_in read is.1.writes.cell is.1.writes.reads) is.1.before in
         subst (λ x. moment s write < moment s x) is.0
-            (strictly write seen (writes_in write is.1.writes.cell is.1.writes.writes) (writes_in seen is.1.writes.cell last.writes) (λ same. other (same ∙ is.0)) (last.last write is.1.writes.writes sooner))
+        (strictly write seen (writes_in write is.1.writes.cell is.1.writes.writes) (writes_in seen is.1.writes.cell last.writes) (λ same. other (same ∙ is.0)) (last.last write is.1.writes.writes sooner))
     has_reader write source (SeesFirst read) other holds is = absurd is
     has_reader write source (Hidden hidden read) other holds is = absurd is
 
     hidden_rule : (write read by : Place) → IsHidden t earlier hints write read by → Says t s (Hidden write read)
-    hidden_rule write read by is = (is.writes.cell, is.writes.reads, record {
-      write = by;
-      writes = is.writes.writes;
-      after = before write by (writes_in by is.writes.cell is.writes.writes) is.after;
-      before = before by read (reads_in read is.writes.cell is.writes.reads) is.before;
-    })
+    hidden_rule write read by is = (
+      is.writes.cell,
+      is.writes.reads,
+      record {
+        write = by;
+        writes = is.writes.writes;
+        after = before write by (writes_in by is.writes.cell is.writes.writes) is.after;
+        before = before by read (reads_in read is.writes.cell is.writes.reads) is.before;
+      },
+    )
 
     ordered : (rule : Rule) (a b : Place) → IsSome (operation_at t b) → IsOrdered t earlier hints a b rule → moment s a < moment s b
     ordered Joined a b there is = joined hints a b (is_in b there) is

@@ -74,9 +74,15 @@ fn denies(fact: Fact, read: Place, write: Place) -> bool
 {
     match fact {
         Fact::Before { .. } => false,
-        Fact::Sees { write: seen, read: by } => by == read && seen != write,
+        Fact::Sees {
+            write: seen,
+            read: by,
+        } => by == read && seen != write,
         Fact::SeesFirst { read: by } => by == read,
-        Fact::Hidden { write: hidden, read: from } => from == read && write.is_up_to(hidden),
+        Fact::Hidden {
+            write: hidden,
+            read: from,
+        } => from == read && write.is_up_to(hidden),
     }
 }
 
@@ -94,9 +100,7 @@ fn puts_write_before(trace: &CutTrace<'_>, fact: Fact, read: Reading) -> bool
     ensures { IsTrue result ↔ PutsWriteBefore trace.now fact read }
 {
     match fact.order() {
-        Some((from, to)) => {
-            trace.written(from, read.cell).is_some() && to.is_up_to(read.place)
-        }
+        Some((from, to)) => { trace.written(from, read.cell).is_some() && to.is_up_to(read.place) }
         None => false,
     }
 }
@@ -114,12 +118,7 @@ fn says_other_first(trace: &CutTrace<'_>, fact: Fact, read: Reading) -> bool
 }
 
 // Whether by this hint the read doesn't see first contents.
-fn hint_rules_out_first(
-    trace: &CutTrace<'_>,
-    earlier: &[Line],
-    hint: u32,
-    read: Reading,
-) -> bool
+fn hint_rules_out_first(trace: &CutTrace<'_>, earlier: &[Line], hint: u32, read: Reading) -> bool
     ensures { IsTrue result ↔ IsSomeAnd (known_at earlier.now hint) (λ fact. RulesOutFirst trace.now fact read) }
 {
     match fact_at(earlier, hint) {
@@ -183,9 +182,7 @@ fn settling_hint(
     ensures settles { IsSome result ↔ SomeHint earlier.now hints.now (λ fact. RulesOut trace.now fact read write ⊎ HasBy left fact write) }
     ensures within { MatchOption result ⊤ (λ k. k < length hints.now) }
 {
-    hints
-        .iter()
-        .position(|hint| hint_settles(trace, earlier, *hint, read, left, write))
+    hints.iter().position(|hint| hint_settles(trace, earlier, *hint, read, left, write))
 }
 
 // Whether one of the hints does. The search begins with the one that served last, so that hints in the order of the writes

@@ -56,13 +56,7 @@ fn are_operations(trace: &CutTrace<'_>, a: Place, b: Place) -> bool
 }
 
 // Whether the fact follows by the rule.
-fn follows_by(
-    trace: &CutTrace<'_>,
-    earlier: &[Line],
-    hints: &[u32],
-    fact: Fact,
-    rule: Rule,
-) -> bool
+fn follows_by(trace: &CutTrace<'_>, earlier: &[Line], hints: &[u32], fact: Fact, rule: Rule) -> bool
     ensures { IsTrue result ↔ FollowsBy trace.now earlier.now hints.now fact rule }
 {
     match fact {
@@ -163,9 +157,7 @@ fn is_after_source(
     ensures { IsTrue result ↔ IsAfterSource trace.now earlier.now hints.now write source }
 {
     write != source
-        && hints
-            .iter()
-            .any(|hint| hint_has_reader(trace, earlier, hints, write, source, *hint))
+        && hints.iter().any(|hint| hint_has_reader(trace, earlier, hints, write, source, *hint))
 }
 
 // Whether this hint does.

@@ -62,13 +62,7 @@ fn all_follow(trace: &CutTrace<'_>, lines: &[Line], hints: &[u32]) -> bool
 }
 
 // Whether this line does as line `k`.
-fn line_follows(
-    trace: &CutTrace<'_>,
-    lines: &[Line],
-    hints: &[u32],
-    k: usize,
-    line: Line,
-) -> bool
+fn line_follows(trace: &CutTrace<'_>, lines: &[Line], hints: &[u32], k: usize, line: Line) -> bool
     requires { k < length lines.now }
     ensures { IsTrue result ↔ LineFollows trace.now lines.now hints.now k line }
 {

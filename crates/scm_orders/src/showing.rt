@@ -25,7 +25,10 @@ pub(crate) fn shows(fact: Fact, from: Place, to: Place) -> bool
 pub(crate) fn is_before(earlier: &[Line], hints: &[u32], from: Place, to: Place) -> bool
     ensures { IsTrue result ↔ IsBefore earlier.now hints.now from to }
 {
-    from.is_earlier(to) || hints.iter().any(|hint| hint_shows(earlier, *hint, from, to))
+    from.is_earlier(to)
+        || hints
+            .iter()
+            .any(|hint| hint_shows(earlier, *hint, from, to))
 }
 
 // Whether this hint puts the one operation before the other.

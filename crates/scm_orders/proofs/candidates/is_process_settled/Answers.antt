@@ -1,4 +1,4 @@
-use Rattle.std.proofs.Common.{ℕ, ◌≡◌, ◌<◌, length, refl, sym, ap, ◌∙◌, arith}
+use Rattle.std.proofs.Common.{◌≡◌, length, refl, ap, ◌∙◌, arith}
 use borrow.Author.Count.{below_more}
 use Rattle.scm_sequences.specs.Sequences.{operations}
 use Rattle.scm_orders.specs.Candidates.{IsSettled}

@@ -1,4 +1,4 @@
-use Rattle.std.proofs.Common.{ℕ, ◌⊎◌, IsSomeAnd, ⊎_elim}
+use Rattle.std.proofs.Common.{◌⊎◌, IsSomeAnd, ⊎_elim}
 use Rattle.scm_orders.specs.Candidates.{RulesOut, HasBy}
 use Rattle.scm_orders.specs.Facts.{fact_at}
 use Rattle.scm_orders.proofs.PlaceLaws.{none_is}

@@ -1,4 +1,4 @@
-use Rattle.std.proofs.Common.{ℕ, ◌≡◌, ◌<◌, Some, slice_get, refl, subst, arith}
+use Rattle.std.proofs.Common.{◌≡◌, Some, slice_get, refl, subst, arith}
 use Rattle.std.proofs.lemmas.Option.{get_or_from_slice_get, slice_get_within}
 use borrow.Author.Count.{below_more}
 use Rattle.scm_orders.specs.declared.derivation.Line.{Line}

@@ -8,6 +8,6 @@ pub returns-clause-none : goal.returns-clause-none
 returns-clause-none c =
     let exact : IsTrue c.refute.result ↔ Refutes (cut_to (trace_of c.args.initials.now c.args.sequences.now) c.args.lengths.now) c.args.derivation.now.lines.items c.args.derivation.now.hints.items =
     subst (λ t. IsTrue c.refute.result ↔ Refutes t c.args.derivation.now.lines.items c.args.derivation.now.hints.items) c.new-trace.ensures
-        (subst (λ lines. IsTrue c.refute.result ↔ Refutes c.new-trace.result lines c.args.derivation.now.hints.items) c.deref.ensures.value
-            (subst (λ hints. IsTrue c.refute.result ↔ Refutes c.new-trace.result c.deref.result.now hints) c.deref-2.ensures.value c.refute.ensures)) in
+    (subst (λ lines. IsTrue c.refute.result ↔ Refutes c.new-trace.result lines c.args.derivation.now.hints.items) c.deref.ensures.value
+    (subst (λ hints. IsTrue c.refute.result ↔ Refutes c.new-trace.result c.deref.result.now hints) c.deref-2.ensures.value c.refute.ensures)) in
     λ yes. none_left (cut_to (trace_of c.args.initials.now c.args.sequences.now) c.args.lengths.now) c.args.derivation.now.lines.items c.args.derivation.now.hints.items (exact.0 yes)
