@@ -132,10 +132,7 @@ fn add_line(rt: &impl Abort, derivation: &mut Derivation, text: &str) {
     let (rule, hints) = rule_in(rt, words);
     let first = derivation.hints.len();
     for hint in hints.split(':').filter(|hint| !hint.is_empty()) {
-        derivation
-            .hints
-            .push(number(rt, hint))
-            .expect(rt, "memory");
+        derivation.hints.push(number(rt, hint)).expect(rt, "memory");
     }
     let count = derivation.hints.len().saturating_sub(first);
     derivation

@@ -68,7 +68,10 @@ fn short_refutations_have_their_text(rt: HostRuntime) -> Result<(), Fail> {
         ),
     ];
     for (fact, rule, word) in table {
-        for (hints, more) in [(&[][..], ""), (&[4, 17, 4_294_967_295][..], ":4:17:4294967295")] {
+        for (hints, more) in [
+            (&[][..], ""),
+            (&[4, 17, 4_294_967_295][..], ":4:17:4294967295"),
+        ] {
             let reply = cycle_of_one(rt.alloc(), fact, rule, hints)?;
             let line = line_of(rt.alloc(), &reply)?;
             let wanted = format!(in rt.alloc(); "? cycle 1 {word}{more}\n")?;
