@@ -1,65 +1,69 @@
 //! How clocks rose.
-use scm_clocks::Grid;
 use std::alloc::Global;
 
 /// The most rises of a trace: one that has more gets no list.
-const MOST_RISES: usize = 1 << 25;
+const MOST_RISES: u32 = 1 << 25;
 
-/// A clock rose to this count, by this step. The one before it has the number `older`, from 1; 0 is none.
+/// From this place on the clocks of a process have this count, by this step.
 #[derive(Clone, Copy)]
 struct Rise {
+    at: u32,
     count: u32,
     by: u32,
-    older: u32,
 }
 
-/// For each operation and each process, all rises of how many of that process come before the operation.
+/// For each two processes the rises of how many of the one come before the operations of the other, by steps that lead into
+/// the latter, in the order in which they came.
 #[derive(Drop)]
 pub(crate) struct Rises {
-    newest: Grid,
-    list: Vec<Rise>,
+    procs: u32,
+    lists: Vec<Vec<Rise>>,
+    total: u32,
 }
 
 impl Rises {
-    pub(crate) fn new(alloc: Global, ops: u32, procs: u32) -> Option<Rises> {
+    pub(crate) fn new(alloc: Global, procs: u32) -> Option<Rises> {
+        let mut lists = Vec::new(alloc);
+        for _ in 0..procs.checked_mul(procs)? {
+            lists.push(Vec::new(alloc)).ok()?;
+        }
         Some(Rises {
-            newest: Grid::zeros(alloc, ops, procs)?,
-            list: Vec::new(alloc),
+            procs,
+            lists,
+            total: 0,
         })
     }
 
-    pub(crate) fn add(&mut self, x: u32, process: u32, count: u32, by: u32) -> Option<()> {
-        if self.list.len() >= MOST_RISES {
+    fn place(&self, owner: u32, process: u32) -> Option<usize> {
+        let place = owner.checked_mul(self.procs)?.checked_add(process)?;
+        Some(place as usize)
+    }
+
+    /// So many of a process come before this place of its owner from now on, by this step.
+    pub(crate) fn add(
+        &mut self,
+        spot: (u32, u32),
+        process: u32,
+        count: u32,
+        by: u32,
+    ) -> Option<()> {
+        let (owner, at) = spot;
+        let place = self.place(owner, process)?;
+        if self.total >= MOST_RISES {
             return None;
         }
-        let older = self.newest.get(x, process)?;
-        self.list.push(Rise { count, by, older }).ok()?;
-        let number = u32::try_from(self.list.len()).ok()?;
-        self.newest.set(x, process, number)
+        self.total = self.total.saturating_add(1);
+        let list = self.lists.get_mut(place)?;
+        list.push(Rise { at, count, by }).ok()
     }
 
-    fn get(&self, number: u32) -> Option<Rise> {
-        self.list.get(number.checked_sub(1)? as usize).copied()
-    }
-
-    /// The step of the newest rise.
-    pub(crate) fn last(&self, x: u32, process: u32) -> Option<u32> {
-        Some(self.get(self.newest.get(x, process)?)?.by)
-    }
-
-    /// The step by which the clock first rose to this count.
-    pub(crate) fn first(&self, x: u32, process: u32, count: u32) -> Option<u32> {
-        let mut first = None;
-        let mut number = self.newest.get(x, process)?;
-        for _ in 0..self.list.len() {
-            match self.get(number) {
-                Some(rise) if rise.count >= count => {
-                    first = Some(rise.by);
-                    number = rise.older;
-                }
-                _ => break,
-            }
-        }
-        first
+    /// The step by which so many of a process came before this place of its owner first.
+    pub(crate) fn first(&self, spot: (u32, u32), process: u32, count: u32) -> Option<u32> {
+        let (owner, at) = spot;
+        let list = self.lists.get(self.place(owner, process)?)?;
+        let rise = list
+            .iter()
+            .find(|rise| rise.at <= at && rise.count >= count)?;
+        Some(rise.by)
     }
 }

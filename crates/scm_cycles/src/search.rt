@@ -66,7 +66,7 @@ impl Search {
             sources: vec![in alloc; None; ops as usize].ok()?,
             firsts: vec![in alloc; None; CELLS as usize].ok()?,
             clocks,
-            rises: Rises::new(alloc, ops, procs)?,
+            rises: Rises::new(alloc, procs)?,
             flags: Flags::new(alloc, ops)?,
             closing: None,
             fuel,
@@ -129,7 +129,8 @@ impl Search {
                 path.reverse();
                 return Some(path);
             }
-            let id = self.rises.first(x, process, at.checked_add(1)?)?;
+            let spot = self.numbering.spot(x)?;
+            let id = self.rises.first(spot, process, at.checked_add(1)?)?;
             path.push(id).ok()?;
             x = self.steps.get(id)?.from;
         }
@@ -204,7 +205,6 @@ impl Search {
         for process in 0..self.procs {
             let count = self.up_to(x, process)?;
             if self.before(y, process)? < count {
-                let by = by.or(self.rises.last(x, process));
                 self.raise(y, process, count, by)?;
                 is_new = true;
             }
@@ -213,7 +213,10 @@ impl Search {
     }
 
     fn raise(&mut self, y: u32, process: u32, count: u32, by: Option<u32>) -> Option<()> {
-        self.rises.add(y, process, count, by?)?;
+        if let Some(id) = by {
+            let spot = self.numbering.spot(y)?;
+            self.rises.add(spot, process, count, id)?;
+        }
         self.clocks.set(y, process, count)
     }
 }
