@@ -10,6 +10,25 @@ pub(crate) struct Share {
     pub(crate) later: Option<u32>,
 }
 
+fn part(list: &[u32], from: usize, to: usize) -> &[u32] {
+    match list.get(from..to) {
+        Some(part) => part,
+        None => &[],
+    }
+}
+
+impl Share {
+    // Of the writes between two places of this list, where those below `low` are hidden, and those from `high` on come later.
+    fn of(list: &[u32], begin: usize, low: usize, high: usize, end: usize) -> Share {
+        let left = part(list, low, high);
+        Share {
+            hidden: part(list, begin, low).last().copied(),
+            left: left.first().copied().zip(left.last().copied()),
+            later: part(list, high, end).first().copied(),
+        }
+    }
+}
+
 /// The read, the last write of each process to its cell before it, the shares of the processes that wrote the value, and
 /// whether first contents are left.
 #[derive(Drop)]
@@ -91,38 +110,24 @@ impl Search {
     }
 
     fn add_share(&self, view: &mut View, process: u32, start: u32) -> Option<()> {
-        let count = |place: u32| self.writers.count(view.value, start.checked_add(place)?);
-        let (begin, end) = (count(0)?, count(self.numbering.count(process)?)?);
-        if begin == end {
-            return Some(());
-        }
-        let low = count(self.hidden_before(view, process)?)?;
         let (owner, at) = self.numbering.spot(view.read)?;
-        let is_own = owner == process;
-        let high = count(if is_own {
-            at
+        let (later, end) = if owner == process {
+            (at, at)
         } else {
-            self.after(view.read, process)?
-        })?;
-        let get = |place: usize| self.writers.of(view.value)?.get(place).copied();
-        let share = Share {
-            hidden: if begin < low {
-                get(low.checked_sub(1)?)
-            } else {
-                None
-            },
-            left: if low < high {
-                Some((get(low)?, get(high.checked_sub(1)?)?))
-            } else {
-                None
-            },
-            later: if high < end && !is_own {
-                get(high)
-            } else {
-                None
-            },
+            let count = self.numbering.count(process)?;
+            (self.after(view.read, process)?, count)
         };
-        view.shares.push(share).ok()
+        let hidden = self.hidden_before(view, process)?;
+        let writers = self.writers.of(view.value)?;
+        let begin = self.writers.count(view.value, start)?;
+        let low = self.writers.count(view.value, start.checked_add(hidden)?)?;
+        let high = self.writers.count(view.value, start.checked_add(later)?)?;
+        let end = self.writers.count(view.value, start.checked_add(end)?)?;
+        if begin < end {
+            let share = Share::of(writers, begin, low, high, end);
+            view.shares.push(share).ok()?;
+        }
+        Some(())
     }
 
     // How many operations of a process come before some write of the cell that comes before the read.
