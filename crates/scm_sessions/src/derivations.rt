@@ -77,15 +77,24 @@ impl<W: Write> Port<W> {
         }
     }
 
-    /// Puts each of these hints, with a colon before it.
+    /// Puts a hint, with a colon before it.
+    fn put_hint(&mut self, hint: u32)
+        ensures bytes { Sends (W.contents (inner_of self.old)) (has_failed self.old)
+            (W.contents (inner_of self.new)) (has_failed self.new) (hint_text hint) }
+        ensures reads { reads_of self.new ≡ reads_of self.old }
+    {
+        self.put(b":");
+        self.put_number(u64::from(hint));
+    }
+
+    /// Puts each of these hints.
     fn put_hints(&mut self, hints: &[u32])
         ensures bytes { Sends (W.contents (inner_of self.old)) (has_failed self.old)
             (W.contents (inner_of self.new)) (has_failed self.new) (flat_map hint_text hints.now) }
         ensures reads { reads_of self.new ≡ reads_of self.old }
     {
         for hint in hints {
-            self.put(b":");
-            self.put_number(u64::from(*hint));
+            self.put_hint(*hint);
         }
     }
 
@@ -113,14 +122,23 @@ impl<W: Write> Port<W> {
         }
     }
 
+    /// Puts the reply that refutes a trace by these lines, with these hints.
+    fn put_refuting(&mut self, lines: &[Line], hints: &[u32])
+        ensures bytes { Sends (W.contents (inner_of self.old)) (has_failed self.old)
+            (W.contents (inner_of self.new)) (has_failed self.new) (reply_text (cycle lines.now hints.now)) }
+        ensures reads { reads_of self.new ≡ reads_of self.old }
+    {
+        self.put(b"cycle ");
+        self.put_number(lines.len() as u64);
+        self.put_lines(lines, hints);
+    }
+
     /// Puts the reply that refutes a trace shortly.
     pub(crate) fn put_cycle(&mut self, derivation: &Derivation)
         ensures bytes { Sends (W.contents (inner_of self.old)) (has_failed self.old)
             (W.contents (inner_of self.new)) (has_failed self.new) (reply_text (cycle derivation.now.lines.items derivation.now.hints.items)) }
         ensures reads { reads_of self.new ≡ reads_of self.old }
     {
-        self.put(b"cycle ");
-        self.put_number(derivation.lines.len() as u64);
-        self.put_lines(&derivation.lines, &derivation.hints);
+        self.put_refuting(&derivation.lines, &derivation.hints);
     }
 }

@@ -5,6 +5,6 @@ use Rattle.scm_sessions.proofs.port.Port.put_hints.Goals as goal
 
 pub loop-hint-preserved : goal.loop-hint-preserved
 loop-hint-preserved g c = record {
-  sent = Sends-same (Sends-trans (Sends-trans c.loop-hint.invariant.sent c.put.ensures.bytes) c.put_number.ensures.bytes) (flat_map-take_more hint_text _ _ _ _ c.loop-hint-test.true refl);
+  sent = Sends-same (Sends-trans c.loop-hint.invariant.sent c.put_hint.ensures.bytes) (flat_map-take_more hint_text _ _ _ _ c.loop-hint-test.true refl);
   reads = search rules;
 }
