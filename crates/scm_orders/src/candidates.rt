@@ -5,9 +5,10 @@ ghost use Rattle.scm_orders.specs.Places.{WritesWhatIsRead};
 ghost use Rattle.scm_orders.specs.Facts.{fact_at as known_at, SomeHint};
 ghost use Rattle.scm_orders.specs.Candidates.{Overwrites, Denies, RulesOut, PutsWriteBefore, SaysOtherFirst, RulesOutFirst, HasFirst, Has, HasBy, IsSettled, IsFirstSettled, LeavesOnly, Leaves};
 
+use crate::basis::Basis;
 use crate::cut_trace::{CutTrace, Reading};
 use crate::showing::{fact_at, shows};
-use crate::{Fact, Line, Place};
+use crate::{Fact, Place};
 
 /// What may be left for a read to see.
 #[derive(Clone, Copy)]
@@ -118,11 +119,12 @@ fn says_other_first(trace: &CutTrace<'_>, fact: Fact, read: Reading) -> bool
 }
 
 // Whether by this hint the read doesn't see first contents.
-fn hint_rules_out_first(trace: &CutTrace<'_>, earlier: &[Line], hint: u32, read: Reading) -> bool
-    ensures { IsTrue result ↔ IsSomeAnd (known_at earlier.now hint) (λ fact. RulesOutFirst trace.now fact read) }
+fn hint_rules_out_first(on: &Basis<'_>, hint: u32, read: Reading) -> bool
+    ensures { IsTrue result ↔ IsSomeAnd (known_at on.now.earlier.now hint) (λ fact. RulesOutFirst on.now.trace.now fact read) }
 {
-    match fact_at(earlier, hint) {
-        Some(fact) => puts_write_before(trace, fact, read) || says_other_first(trace, fact, read),
+    match fact_at(on.earlier, hint) {
+        Some(fact) => puts_write_before(on.trace, fact, read)
+            || says_other_first(on.trace, fact, read),
         None => false,
     }
 }
@@ -137,73 +139,60 @@ fn is_other_first(trace: &CutTrace<'_>, read: Reading) -> bool
 }
 
 // Whether first contents are left, or another value, or a hint rules them out.
-fn is_first_settled(
-    trace: &CutTrace<'_>,
-    earlier: &[Line],
-    hints: &[u32],
-    read: Reading,
-    left: Left,
-) -> bool
-    ensures { IsTrue result ↔ IsFirstSettled trace.now earlier.now hints.now read left }
+fn is_first_settled(on: &Basis<'_>, read: Reading, left: Left) -> bool
+    ensures { IsTrue result ↔ IsFirstSettled on.now.trace.now on.now.earlier.now on.now.hints.now read left }
 {
     left.has_first()
-        || is_other_first(trace, read)
-        || hints
+        || is_other_first(on.trace, read)
+        || on
+            .hints
             .iter()
-            .any(|hint| hint_rules_out_first(trace, earlier, *hint, read))
+            .any(|hint| hint_rules_out_first(on, *hint, read))
 }
 
 // Whether this hint rules the write out, or shows that it is left.
-fn hint_settles(
-    trace: &CutTrace<'_>,
-    earlier: &[Line],
-    hint: u32,
-    read: Reading,
-    left: Left,
-    write: Place,
-) -> bool
-    ensures { IsTrue result ↔ IsSomeAnd (known_at earlier.now hint) (λ fact. RulesOut trace.now fact read write ⊎ HasBy left fact write) }
+fn hint_settles(on: &Basis<'_>, hint: u32, read: Reading, left: Left, write: Place) -> bool
+    ensures { IsTrue result ↔ IsSomeAnd (known_at on.now.earlier.now hint) (λ fact. RulesOut on.now.trace.now fact read write ⊎ HasBy left fact write) }
 {
-    match fact_at(earlier, hint) {
-        Some(fact) => rules_out(trace, fact, read, write) || left.has_by(fact, write),
+    match fact_at(on.earlier, hint) {
+        Some(fact) => rules_out(on.trace, fact, read, write) || left.has_by(fact, write),
         None => false,
     }
 }
 
 // The first of these hints that does, if there is one.
 fn settling_hint(
-    trace: &CutTrace<'_>,
-    earlier: &[Line],
+    on: &Basis<'_>,
     hints: &[u32],
     read: Reading,
     left: Left,
     write: Place,
 ) -> Option<usize>
-    ensures settles { IsSome result ↔ SomeHint earlier.now hints.now (λ fact. RulesOut trace.now fact read write ⊎ HasBy left fact write) }
+    ensures settles { IsSome result ↔ SomeHint on.now.earlier.now hints.now (λ fact. RulesOut on.now.trace.now fact read write ⊎ HasBy left fact write) }
     ensures within { MatchOption result ⊤ (λ k. k < length hints.now) }
 {
-    hints.iter().position(|hint| hint_settles(trace, earlier, *hint, read, left, write))
+    hints
+        .iter()
+        .position(|hint| hint_settles(on, *hint, read, left, write))
 }
 
 // Whether one of the hints does. The search begins with the one that served last, so that hints in the order of the writes
 // cost one pass.
 fn is_settled_by_hint(
-    trace: &CutTrace<'_>,
-    earlier: &[Line],
-    hints: &[u32],
+    on: &Basis<'_>,
     read: Reading,
     left: Left,
     write: Place,
     served: &mut usize,
 ) -> bool
-    ensures { IsTrue result ↔ SomeHint earlier.now hints.now (λ fact. RulesOut trace.now fact read write ⊎ HasBy left fact write) }
+    ensures { IsTrue result ↔ SomeHint on.now.earlier.now on.now.hints.now (λ fact. RulesOut on.now.trace.now fact read write ⊎ HasBy left fact write) }
 {
-    let start = (*served).min(hints.len());
-    if let Some(k) = settling_hint(trace, earlier, &hints[start..], read, left, write) {
+    let start = (*served).min(on.hints.len());
+    if let Some(k) = settling_hint(on, &on.hints[start..], read, left, write) {
         *served = start + k;
         return true;
     }
-    match settling_hint(trace, earlier, &hints[..start], read, left, write) {
+    match settling_hint(on, &on.hints[..start], read, left, write) {
         Some(k) => {
             *served = k;
             true
@@ -213,41 +202,31 @@ fn is_settled_by_hint(
 }
 
 // Whether the operation at this place, where it writes the read's value to the cell, is settled.
-fn is_settled(
-    trace: &CutTrace<'_>,
-    earlier: &[Line],
-    hints: &[u32],
-    read: Reading,
-    left: Left,
-    write: Place,
-    served: &mut usize,
-) -> bool
-    ensures { IsTrue result ↔ IsSettled trace.now earlier.now hints.now read left write }
+fn is_settled(on: &Basis<'_>, read: Reading, left: Left, write: Place, served: &mut usize) -> bool
+    ensures { IsTrue result ↔ IsSettled on.now.trace.now on.now.earlier.now on.now.hints.now read left write }
 {
-    trace.written(write, read.cell) != Some(read.value)
+    on.trace.written(write, read.cell) != Some(read.value)
         || read.place.is_up_to(write)
         || left.has(write)
-        || is_settled_by_hint(trace, earlier, hints, read, left, write, served)
+        || is_settled_by_hint(on, read, left, write, served)
 }
 
 // Whether each operation of this process is.
 fn is_process_settled(
-    trace: &CutTrace<'_>,
-    earlier: &[Line],
-    hints: &[u32],
+    on: &Basis<'_>,
     read: Reading,
     left: Left,
     process: u8,
     served: &mut usize,
 ) -> bool
-    ensures { IsTrue result ↔ ((at : ℕ) → IsSettled trace.now earlier.now hints.now read left (record { process = process; at = at })) }
+    ensures { IsTrue result ↔ ((at : ℕ) → IsSettled on.now.trace.now on.now.earlier.now on.now.hints.now read left (record { process = process; at = at })) }
 {
-    for at in 0..trace.count(usize::from(process)) {
+    for at in 0..on.trace.count(usize::from(process)) {
         let write = Place {
             process,
             at: at as u32,
         };
-        if !is_settled(trace, earlier, hints, read, left, write, served) {
+        if !is_settled(on, read, left, write, served) {
             return false;
         }
     }
@@ -255,18 +234,12 @@ fn is_process_settled(
 }
 
 // Whether each operation is.
-fn are_settled(
-    trace: &CutTrace<'_>,
-    earlier: &[Line],
-    hints: &[u32],
-    read: Reading,
-    left: Left,
-) -> bool
-    ensures { IsTrue result ↔ ((write : Place) → IsSettled trace.now earlier.now hints.now read left write) }
+fn are_settled(on: &Basis<'_>, read: Reading, left: Left) -> bool
+    ensures { IsTrue result ↔ ((write : Place) → IsSettled on.now.trace.now on.now.earlier.now on.now.hints.now read left write) }
 {
     let mut served = 0;
-    for p in 0..trace.procs() {
-        if !is_process_settled(trace, earlier, hints, read, left, p as u8, &mut served) {
+    for p in 0..on.trace.procs() {
+        if !is_process_settled(on, read, left, p as u8, &mut served) {
             return false;
         }
     }
@@ -274,31 +247,18 @@ fn are_settled(
 }
 
 // Whether nothing but this is left for the read to see.
-fn leaves_only(
-    trace: &CutTrace<'_>,
-    earlier: &[Line],
-    hints: &[u32],
-    left: Left,
-    read: Reading,
-) -> bool
-    ensures { IsTrue result ↔ LeavesOnly trace.now earlier.now hints.now left read }
+fn leaves_only(on: &Basis<'_>, left: Left, read: Reading) -> bool
+    ensures { IsTrue result ↔ LeavesOnly on.now.trace.now on.now.earlier.now on.now.hints.now left read }
 {
-    is_first_settled(trace, earlier, hints, read, left)
-        && are_settled(trace, earlier, hints, read, left)
+    is_first_settled(on, read, left) && are_settled(on, read, left)
 }
 
 /// Whether the operation at this place reads, and nothing but this is left for it to see.
-pub(crate) fn leaves(
-    trace: &CutTrace<'_>,
-    earlier: &[Line],
-    hints: &[u32],
-    place: Place,
-    left: Left,
-) -> bool
-    ensures { IsTrue result ↔ Leaves trace.now earlier.now hints.now place left }
+pub(crate) fn leaves(on: &Basis<'_>, place: Place, left: Left) -> bool
+    ensures { IsTrue result ↔ Leaves on.now.trace.now on.now.earlier.now on.now.hints.now place left }
 {
-    match trace.reading(place) {
-        Some(read) => leaves_only(trace, earlier, hints, left, read),
+    match on.trace.reading(place) {
+        Some(read) => leaves_only(on, left, read),
         None => false,
     }
 }

@@ -2,6 +2,7 @@
 //! operation before itself; and the test whether such a list leaves a trace no schedule.
 #![tactic(auto)]
 
+mod basis;
 mod candidates;
 mod cut_trace;
 mod derivation;

@@ -4,6 +4,7 @@ ghost use Rattle.scm_sequences.specs.Traces.{cut_to, trace_of};
 ghost use Rattle.scm_sequences.specs.Fronts.{IsConsistent};
 ghost use Rattle.scm_orders.specs.Refuting.{LineFollows, AllFollow, IsContradiction, Refutes};
 
+use crate::basis::Basis;
 use crate::cut_trace::CutTrace;
 use crate::following::follows;
 use crate::{Derivation, Fact, Line};
@@ -68,5 +69,13 @@ fn line_follows(trace: &CutTrace<'_>, lines: &[Line], hints: &[u32], k: usize, l
 {
     let first = line.first as usize;
     let end = first + line.count as usize;
-    end <= hints.len() && follows(trace, &lines[..k], &hints[first..end], line)
+    if end > hints.len() {
+        return false;
+    }
+    let basis = Basis {
+        trace,
+        earlier: &lines[..k],
+        hints: &hints[first..end],
+    };
+    follows(&basis, line)
 }

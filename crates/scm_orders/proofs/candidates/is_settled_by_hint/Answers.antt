@@ -9,5 +9,5 @@ pub returns-in-None : goal.returns-in-None
 returns-in-None c = (
   (λ f. absurd (cc f)),
   (λ some. absurd (⊎_elim (λ later. none_is (c.in_default.ensures.settles.1 later)) (λ sooner. none_is (c.in-None.ensures.settles.1 sooner))
-      (any_parted (λ hint. IsSomeAnd (fact_at c.args.earlier.now hint) (λ fact. RulesOut c.args.trace.now fact c.args.read c.args.write ⊎ HasBy c.args.left fact c.args.write)) c.min-start.result c.args.hints.now some))),
+      (any_parted (λ hint. IsSomeAnd (fact_at c.args.on.now.earlier.now hint) (λ fact. RulesOut c.args.on.now.trace.now fact c.args.read c.args.write ⊎ HasBy c.args.left fact c.args.write)) c.min-start.result c.args.on.now.hints.now some))),
 )
