@@ -32,25 +32,33 @@ def peak_of(ran):
 
 def stuck():
     """The reader, which can't begin, reads on: no situation is added."""
-    return writers(WRITERS, STORES), WRITERS
+    return writers(WRITERS, STORES), WRITERS, lambda number: "ld c0 1"
 
 
-def waiting():
-    """Fewer stores, and a process that waits until all are made, and then reads on: each time one situation is added, and its
-    count outgrows its field now and then."""
+def waiters():
+    """Fewer stores, and a process that waits until all are made."""
     trace = writers(WRITERS, STORES)
     trace.order = [(process, it) for process, it in trace.order if process > 0 or it[2] <= LEAST]
     trace.procs += 1
     for cell in range(WRITERS):
         trace.add(WRITERS + 1, "l", cell, STORES if cell else LEAST)
-    return trace, WRITERS + 1
+    return trace
 
 
-def measure(program, name, trace, reader):
-    value = LEAST if reader > WRITERS else 1
+def waiting():
+    """Then it reads on: each time one situation is added, and its count outgrows its field now and then."""
+    return waiters(), WRITERS + 1, lambda number: f"ld c0 {LEAST}"
+
+
+def storing():
+    """It stores a new value each time: one situation is added, and the value's number outgrows its field now and then."""
+    return waiters(), WRITERS + 1, lambda number: f"sd c0 {100 + number}"
+
+
+def measure(program, name, trace, process, access):
     with subprocess.Popen([program, "--workers", "0"], stdin=subprocess.PIPE, stdout=subprocess.PIPE) as ran:
         first = timed(ran, trace.script().decode().splitlines())
-        each = sorted(timed(ran, [f"a do t {reader} ld c0 {value}", "a ask t"]) * 1_000 for _ in range(ASKED))
+        each = sorted(timed(ran, [f"a do t {process} {access(number)}", "a ask t"]) * 1_000 for number in range(ASKED))
         peak = peak_of(ran)
         ran.stdin.close()
     print(f"{os.path.basename(program)}, {name}: the first question {first:.2f} s; then, in ms: in the middle {each[ASKED // 2]:.3f}, in the mean"
@@ -59,7 +67,7 @@ def measure(program, name, trace, reader):
 
 def main():
     for program in sys.argv[1:] or sys.exit(__doc__):
-        for ask in (stuck, waiting):
+        for ask in (stuck, waiting, storing):
             measure(os.path.abspath(program), ask.__name__, *ask())
 
 

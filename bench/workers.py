@@ -202,8 +202,26 @@ def measure_end(program):
     for _ in range(40):
         for workers, found in times.items():
             found.append(seconds_of_one_line(program, workers))
-    shown = ", ".join(f"{sorted(found)[len(found) // 2] * 1e3:.1f} ms with {workers}" for workers, found in times.items())
-    print(f"\na script of one line, in the middle of 40 runs: {shown} workers")
+    print(f"\na script of one line, in the middle of 40 runs: {in_the_middle(times)} workers")
+
+
+def in_the_middle(times):
+    return ", ".join(f"{sorted(found)[len(found) // 2] * 1e3:.1f} ms with {workers}" for workers, found in times.items())
+
+
+def seconds_to_end(program, workers):
+    """The seconds from the end of the input to that of the program, while workers search a large trace."""
+    run = Run(program, workers)
+    run.send(forbidden("t", WRITERS, BUDGET))
+    time.sleep(max(PAUSES))
+    begin = time.perf_counter()
+    run.end()
+    return time.perf_counter() - begin
+
+
+def measure_end_of_work(program):
+    times = {workers: [seconds_to_end(program, workers) for _ in range(REPEATS)] for workers in (0, 2, 4, 16)}
+    print(f"the end of the input while workers search, in the middle of {REPEATS} runs: {in_the_middle(times)} workers")
 
 
 def questions_of_sessions():
@@ -290,6 +308,7 @@ def main():
     measure_pauses(program)
     measure_pay(program)
     measure_end(program)
+    measure_end_of_work(program)
     measure_sessions(program)
 
 

@@ -122,11 +122,11 @@ def replies_of(output):
     return output[:journal.start()] if journal else output
 
 
-def ways(stored, asked):
+def ways(stored, asked, is_settled):
     """The words of each way to run a script, what is wanted of its output, or None where the model alone can say, and how
     the lines of both are compared."""
     for workers in range(MOST_WORKERS + 1):
-        yield [*stored.words, "--workers", str(workers)], stored.output, is_lawful if workers else is_exact
+        yield [*stored.words, "--workers", str(workers)], stored.output, is_lawful if workers and not is_settled else is_exact
     if "--each" not in stored.words:
         wanted = grouped(asked, replies_of(stored.output)) if stand_apart(asked) else None
         yield [*stored.words, "--each"], wanted, is_lawful
@@ -141,12 +141,13 @@ def judge(stored, output, words):
     return []
 
 
-def run_in_all_ways(program, stored):
-    """What is wrong with the runs over a script, how many there were, and how many schedules and refutations were judged."""
+def run_in_all_ways(program, stored, is_settled):
+    """What is wrong with the runs over a script, how many there were, and how many schedules and refutations were judged.
+    A script that is settled has one right reply to each line."""
     asked = [one for one in map(asked_by, lines_of(stored.given)) if one is not None]
     is_alone = len({session for session, _ in asked}) == 1  # then groups change nothing
     wrong, judged, runs, evidence = [], set(), 0, 0
-    for words, wanted, is_same in ways(stored, asked):
+    for words, wanted, is_same in ways(stored, asked, is_settled):
         output, error, status = run(program, words if "--journal" in words else [*words, "--journal"], stored.given)
         found = []
         if wanted is not None:
@@ -162,17 +163,20 @@ def run_in_all_ways(program, stored):
     return wrong, runs, evidence
 
 
-def check(folder, program, scripts, single_runs):
-    """Whether there are verdicts and nothing is wrong with the scripts, in all ways, and with the single runs; tells so."""
+def check(folder, program, scripts, single_runs, settled=()):
+    """Whether there are verdicts and nothing is wrong with the scripts, in all ways, and with the single runs; tells so. The
+    scripts of these names, all of which are there, are settled."""
     with ProcessPoolExecutor(len(os.sched_getaffinity(0))) as pool:
         running = [pool.submit(run_exactly, program, it) for it in single_runs]
-        running += [pool.submit(run_in_all_ways, program, it) for it in scripts]
+        running += [pool.submit(run_in_all_ways, program, it, it.name in settled) for it in scripts]
         parts = [it.result() for it in running]
-    wrong = [it for found, _, _ in parts for it in found]
+    wrong = [f"{name}: there is no such script" for name in set(settled).difference(it.name for it in scripts)]
+    wrong += [it for found, _, _ in parts for it in found]
     runs, judged = (sum(part[at] for part in parts) for at in (1, 2))
     for it in wrong:
         print(it)
-    told = f", {len(wrong)} wrong" if wrong else ""
+    told = f", {len(settled)} of them worked examples" if settled else ""
+    told += f", {len(wrong)} wrong" if wrong else ""
     print(f"{folder}: {len(parts)} scripts, {runs} runs, {judged} schedules and refutations judged{told}")
     return judged > 0 and not wrong
 

@@ -1,18 +1,33 @@
-"""Single calls of which each allocation is refused in turn, or some of very many: the tests that tell which call was refused.
+"""Single calls of which each allocation is refused in turn, but for a test that is slow: the tests that tell which call was
+refused. Those of refused_rows call the lines of a row, on a book and through passes, and write its replies.
 
 A test that was refused what it needs for itself ends and says that it is memory. Every other end but the good one is wrong,
 and so is each that comes after a call told that it was refused: the same call had the memory then."""
 import collections
-import random
+import os
 import re
+import sys
 from concurrent.futures import ThreadPoolExecutor
 
 from refused_scripts import IN_VAIN, counts
 from unproved import processors
 
-TESTS = ("refused::", "refused_books::", "refused_forms::", "refused_lines::")
+ROWS = os.path.join(os.path.dirname(os.path.abspath(__file__)), "../../rows")
+sys.path.append(f"{ROWS}/../tools")
+from stored import stored_at  # noqa: E402
+
+TESTS = ("refused::", "refused_books::", "refused_forms::", "refused_lines::", "refused_words::")
+AS_THEY_ARE = ("faults::", "refused_forms::sizes")  # of which nothing is refused
+ON_ROWS = {
+    "refused_rows::by_book": [
+        "message-passing-out-of-order", "store-buffering", "a-mark-within-a-budget-that-is-too-small",
+        "an-inconsistent-mark-within-its-budget", "a-return-changes-what-can-be-read", "numbers-of-marks-after-a-return",
+        "declarations-leave-the-name-free", "claims-and-releases",
+    ],
+    "refused_rows::by_passes": ["message-passing-out-of-order", "a-return-changes-what-can-be-read", "claims-and-releases"],
+}
 NO_CALL, PREPARING = "no call", "a test's own preparing"
-MOST, DRAWN = 800, 100  # of a test that makes more allocations than the first so many are refused, drawn by its name
+SLOW = {"refused_forms::to_full_situations": 10}  # of whose allocations one in so many is refused, since each takes a fifth of a second
 WANTS_MEMORY = re.compile(rb"memory|NoMemory|AllocError|AllocFailed")
 
 
@@ -20,54 +35,63 @@ def told(output):
     return [line.removeprefix("refused ") for line in output.decode().splitlines() if line.startswith("refused ")]
 
 
-def numbers(test, made):
-    """The allocations to refuse: each, or some where there are too many for an evening."""
-    every = range(1, made + IN_VAIN)
-    return every if made <= MOST else random.Random(test).sample(every, DRAWN)
-
-
 class Calls:
-    """The runs of one test."""
+    """The runs of one test, on a row where it needs one: what it writes has that one's replies."""
 
-    def __init__(self, program, test):
-        self.program, self.test = program, test
+    def __init__(self, program, test, row=None):
+        stored = stored_at(f"{ROWS}/{row}", ".scm", ".replies") if row else None
+        self.program, self.test, self.name = program, test, f"{test} on {row}" if row else test
+        self.given = without_comments(stored.given) if row else b""
+        self.wanted = stored.output if row else b""
         self.shown = collections.Counter()
         self.wrong = []
 
     def refuse(self, number):
         """In which call the refusal of this allocation showed."""
-        output, error, status = self.program.run([self.test], b"", number)
+        output, error, status = self.program.run([self.test], self.given, number)
         calls = told(output)
-        if status == 0 and len(calls) < 2:
+        if status == 0 and len(calls) < 2 and self.wanted in output:
             return calls[0] if calls else NO_CALL
         if status is not None and not calls and WANTS_MEMORY.search(error):
             return PREPARING
-        self.wrong.append(f"{self.test}, allocation {number}: status {status}, {calls}, {(output + error)!r}")
+        self.wrong.append(f"{self.name}, allocation {number}: status {status}, {calls}, {(output + error)!r}")
         return "a wrong end"
+
+    def numbers(self):
+        """The allocations to refuse."""
+        made = self.program.allocations([self.test], self.given)
+        if self.test in SLOW:
+            print(f"{self.name}: one in {SLOW[self.test]} of {made} allocations")
+        return range(1, made + IN_VAIN, SLOW.get(self.test, 1))
 
     def run(self, pool):
         if self.refuse(0) != NO_CALL:
-            self.wrong.append(f"{self.test} fails where nothing is refused")
-        made = self.program.allocations([self.test], b"")
-        refused = numbers(self.test, made)
+            self.wrong.append(f"{self.name} fails where nothing is refused")
+        refused = self.numbers()
         self.shown.update(pool.map(self.refuse, refused))
         return len(refused)
+
+
+def without_comments(script):
+    return b"".join(line for line in script.splitlines(keepends=True) if not line.startswith(b"#"))
 
 
 def tests_of(program):
     listed, _, _ = program.run(["--list"], b"", 0)
     names = [line.partition(": ")[0] for line in listed.decode().splitlines()]
-    return [name for name in names if name.startswith(TESTS)]
+    return [Calls(program, name) for name in names if name.startswith(TESTS + AS_THEY_ARE)]
 
 
 def refuse_all(program):
     """Whether nothing was wrong. Prints how many allocations were refused in which call."""
     shown, made, wrong = collections.Counter(), 0, []
-    tests = tests_of(program)
+    tests = tests_of(program) + [Calls(program, test, row) for test, rows in ON_ROWS.items() for row in rows]
     with ThreadPoolExecutor(processors()) as pool:
-        for test in tests:
-            calls = Calls(program, test)
-            made += calls.run(pool)
+        for calls in tests:
+            if calls.test.startswith(AS_THEY_ARE):
+                calls.refuse(0)
+            else:
+                made += calls.run(pool)
             shown += calls.shown
             wrong += calls.wrong
     print(f"refused, single calls: {made} allocations of {len(tests)} tests, {len(wrong)} wrong: " + counts(shown))

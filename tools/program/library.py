@@ -27,6 +27,7 @@ ARGUMENTS = {
     "&mut usize": "&mut number",
 }
 OUTSIDE = f'"{LIBRARY}::scm_'
+OUTSIDE_EXPORT = re.compile(r"define .*@(scm_\w+)\(")
 
 
 def argument(parameter):
@@ -78,11 +79,15 @@ def archive(objects, library):
         subprocess.run(["ar", "rcsD", library, *objects, *further], check=True)
 
 
+def plain_library(top, scratch):
+    """The library's module, without its checks."""
+    copy = copy_of(top, scratch, tells_so=False)
+    as_program(copy)
+    return exported(stripped(module_of(copy, scratch, LIBRARY), all_hints(copy), scratch), scratch)
+
+
 def compile_library(top, library):
     with tempfile.TemporaryDirectory() as scratch:
-        copy = copy_of(top, scratch, tells_so=False)
-        as_program(copy)
-        plain = stripped(module_of(copy, scratch, LIBRARY), all_hints(copy), scratch)
         made = f"{scratch}/scm.o"
-        subprocess.run([CLANG, *OPTIONS, "-c", "-x", "ir", exported(plain, scratch), "-o", made], check=True)
+        subprocess.run([CLANG, *OPTIONS, "-c", "-x", "ir", plain_library(top, scratch), "-o", made], check=True)
         archive([made], library)

@@ -58,13 +58,13 @@ def sum_of(top, parts, crate=PROGRAM):
 
 
 class Built:
-    """A program that was built here, out/WAY/scm_monitor, or the library, out/WAY/libscm.a, and beside it the sum of what it was
-    built from."""
+    """A program that was built here, out/WAY/scm_monitor, or the library, out/WAY/libscm.a or scm.wasm, and beside it the sum of
+    what it was built from."""
 
-    def __init__(self, top, way, parts, crate=PROGRAM):
+    def __init__(self, top, way, parts, crate=PROGRAM, name=None):
         self.top, self.parts, self.crate = top, parts, crate
-        name, tail = (PROGRAM, "") if crate == PROGRAM else ("libscm.a", "-of-library")
-        self.program, self.sum = f"{top}/out/{way}/{name}", f"{top}/out/{way}/sum{tail}"
+        tail = f"-of-{name}" if name else "" if crate == PROGRAM else "-of-library"
+        self.program, self.sum = f"{top}/out/{way}/{name or (PROGRAM if crate == PROGRAM else 'libscm.a')}", f"{top}/out/{way}/sum{tail}"
 
     def is_current(self):
         try:

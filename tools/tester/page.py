@@ -19,6 +19,11 @@ def file(name):
         return text.read()
 
 
+def script(*texts, **attributes):
+    """A script that may have any character, read as HTML and as XML."""
+    return element("script", "//<![CDATA[\n", *texts, "//]]>", **attributes)
+
+
 def page(recording, view, source):
     title = f"{recording.name} is {view.verdict}"
     data = json.dumps(view.data, separators=(",", ":"))
@@ -36,7 +41,7 @@ def page(recording, view, source):
             element("header", *head(recording, view, source)),
             element("main", figure(view, title), element("section", view.panel, class_="panel", aria_label="Why"), class_="walk" if "steps" in view.data else None),
             element("script", data, type="application/json", id="data"),
-            element("script", "//<![CDATA[\n", file("page.js"), "//]]>"),
+            script(file("page.js"), 'enliven(JSON.parse(document.getElementById("data").textContent));\n'),
         ),
         lang="en",
     ) + "\n"

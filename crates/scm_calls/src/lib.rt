@@ -6,14 +6,6 @@
 #[cfg(test)]
 mod again;
 #[cfg(test)]
-mod amo;
-#[cfg(test)]
-mod book;
-#[cfg(test)]
-mod budget;
-#[cfg(test)]
-mod cells;
-#[cfg(test)]
 mod deliveries;
 #[cfg(test)]
 mod expand;
@@ -22,15 +14,11 @@ mod idle;
 #[cfg(test)]
 mod lending;
 #[cfg(test)]
-mod marks;
-#[cfg(test)]
 mod pile;
 #[cfg(test)]
 mod reading;
 #[cfg(test)]
 mod results;
-#[cfg(test)]
-mod sequences;
 #[cfg(test)]
 mod shared;
 #[cfg(test)]

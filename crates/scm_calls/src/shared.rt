@@ -112,12 +112,25 @@ fn refused_list<B: BookNaming>(rt: &impl Wait, shared: &SharedBook<B>, pass: &mu
     )
 }
 
-/// Two passes after one of them filled the journal, and both were refused one more call; and how many entries there are.
+/// How many passes enter beyond the two that did, up to the first that is refused for their number.
+fn more_passes<B: BookNaming>(rt: &impl Wait, shared: &SharedBook<B>) -> usize {
+    for n in 0..1_000 {
+        match shared.enter(rt) {
+            Ok(_) => {}
+            Err(Refusal::TooManySessions) => return n,
+            Err(_) => return 1_000,
+        }
+    }
+    1_000
+}
+
+/// What two passes made and have seen after one of them filled the journal, and was refused two more calls, and the other one;
+/// how many passes entered in all; and how many entries there are.
 fn fill<B: BookNaming, R: Wait + Abort>(
     rt: &R,
     alloc: Global,
     token: BookToken,
-) -> ([u64; 4], usize)
+) -> ([u64; 4], usize, usize)
     requires table { token.table.shared.table_id ≡ B.table }
     requires made { (token.made.name ≡ B.made) × (token.made.parts ≡ B.seats) }
     requires totals { (token.totals.taken.name ≡ B.taken) × (token.totals.delivered.name ≡ B.delivered) × (token.totals.taken.parts ≡ B.parts) }
@@ -128,41 +141,19 @@ fn fill<B: BookNaming, R: Wait + Abort>(
     for _ in 0..MOST_ENTRIES {
         list(rt, &shared, &mut one);
     }
-    assert!(rt; refused_list(rt, &shared, &mut one));
+    assert!(rt; refused_list(rt, &shared, &mut one) && refused_list(rt, &shared, &mut one));
     assert!(rt; refused_list(rt, &shared, &mut other));
+    let passes = more_passes(rt, &shared).saturating_add(2);
     let found = [one.made(), one.seen(), other.made(), other.seen()];
     let audit = shared.audit(Vec::new(alloc), Vec::new(alloc));
-    (found, audit.book.entries().len())
+    (found, passes, audit.book.entries().len())
 }
 
 #[test]
 fn full_journal(rt: HostRuntime) -> Result<(), Fail> {
-    let (found, entries) = fill::<Brand, _>(&rt, rt.alloc(), BookToken::new(rt.alloc())?);
+    let (found, passes, entries) = fill::<Brand, _>(&rt, rt.alloc(), BookToken::new(rt.alloc())?);
     let most = MOST_ENTRIES as u64;
     assert!(rt; found == [most, most, 0, most]);
-    assert!(rt; entries == MOST_ENTRIES);
-    Ok(())
-}
-
-/// How many passes enter, up to the first that is refused for their number.
-fn most_passes<B: BookNaming, R: Wait + Abort>(rt: &R, alloc: Global, token: BookToken) -> usize
-    requires table { token.table.shared.table_id ≡ B.table }
-    requires made { (token.made.name ≡ B.made) × (token.made.parts ≡ B.seats) }
-    requires totals { (token.totals.taken.name ≡ B.taken) × (token.totals.delivered.name ≡ B.delivered) × (token.totals.taken.parts ≡ B.parts) }
-{
-    let shared = SharedBook::<B>::new(alloc, token);
-    for n in 0..1_000 {
-        if let Err(refusal) = shared.enter(rt) {
-            assert!(rt; refusal == Refusal::TooManySessions);
-            return n;
-        }
-    }
-    1_000
-}
-
-#[test]
-fn so_many_enter_and_no_more(rt: HostRuntime) -> Result<(), Fail> {
-    let most = most_passes::<Brand, _>(&rt, rt.alloc(), BookToken::new(rt.alloc())?);
-    assert!(rt; most == MOST_SESSIONS);
+    assert!(rt; passes == MOST_SESSIONS && entries == MOST_ENTRIES);
     Ok(())
 }

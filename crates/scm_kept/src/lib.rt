@@ -9,8 +9,6 @@ mod contents;
 #[cfg(test)]
 mod forms;
 #[cfg(test)]
-mod frontier;
-#[cfg(test)]
 mod judged;
 #[cfg(test)]
 mod litmus;

@@ -5,8 +5,6 @@
 #[cfg(test)]
 mod beside;
 #[cfg(test)]
-mod cutting;
-#[cfg(test)]
 mod each;
 #[cfg(test)]
 mod fakes;
@@ -16,8 +14,6 @@ mod journals;
 mod ports;
 #[cfg(test)]
 mod proposals;
-#[cfg(test)]
-mod read_lines;
 #[cfg(test)]
 mod replays;
 #[cfg(test)]

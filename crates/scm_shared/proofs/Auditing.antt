@@ -6,7 +6,6 @@ use Rattle.std.proofs.lemmas.List.Folds.{list_all-map}
 use Rattle.std.proofs.lemmas.List.Elements.{All-append}
 use Rattle.scm_book.specs.declared.entry.Entry.{Entry}
 use Rattle.scm_book.specs.Calls.{EntryData, entry_data}
-use Rattle.scm_book.specs.Callers.{calls_by}
 use Rattle.scm_shared.specs.Passes.{Known}
 use Rattle.scm_shared.specs.Rule.{Fits}
 use Rattle.scm_shared.specs.Audits.{covers, AllFollow, Agree}

@@ -8,3 +8,4 @@ pub mod Taking
 pub mod Moves
 mod Following
 mod Lines
+mod Meeting

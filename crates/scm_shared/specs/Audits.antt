@@ -1,5 +1,5 @@
 -- What an audit compares: the calls that passes kept with the journal.
-use Rattle.std.specs.Prelude.{ℕ, ◌≡◌, List, Bool, true, ◌==◌, All}
+use Rattle.std.specs.Prelude.{◌≡◌, List, Bool, true, ◌==◌, All}
 use Rattle.std.specs.List.{list_all, list_any}
 use Rattle.scm_book.specs.Calls.{CallData, ReplyData, EntryData}
 use Rattle.scm_book.specs.Callers.{calls_by}

@@ -4,3 +4,4 @@ pub mod Steps
 pub mod Seats
 pub mod Desks
 pub mod Audits
+pub mod Meeting

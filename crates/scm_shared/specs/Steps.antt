@@ -1,11 +1,11 @@
 -- The steps of the counting word: how each changes what a seat knows, and what it tells.
-use Rattle.std.specs.Prelude.{ℕ, suc, ◌≡◌, ◌+◌, List, [], ◌∷◌, ◌++◌, length}
+use Rattle.std.specs.Prelude.{ℕ, ◌≡◌, ◌+◌, List, [], ◌∷◌, ◌++◌, length}
 use mathlib.Core.Option.{Option, some, none}
 use Rattle.atomic_table.specs.Table.{Me, Step}
 use Rattle.scm_book.specs.declared.entry.Entry.{Entry}
 use Rattle.scm_book.specs.Calls.{EntryData, entry_data}
 use Rattle.scm_shared.specs.Passes.{Known, known, newcomer, at_front}
-use Rattle.scm_shared.specs.Rule.{SeatView, keeper, holder, nobody, AllFit, AllGiven}
+use Rattle.scm_shared.specs.Rule.{SeatView, keeper, holder, AllFit, AllGiven}
 
 -- ---- enter: a new pass's seat is split off the book's
 

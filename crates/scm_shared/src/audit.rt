@@ -7,8 +7,9 @@ ghost use Rattle.scm_book.specs.Journal.{IsLegalBook};
 ghost use Rattle.scm_shared.specs.Rule.{Fits};
 ghost use Rattle.scm_shared.specs.Seats.{IsBooks};
 ghost use Rattle.scm_shared.specs.Audits.{covers, AllFollow, Agree};
+ghost use Rattle.scm_shared.specs.Meeting.{AreInOrder, AreCounted};
 
-use crate::comparing::follows;
+use crate::comparing::{follows, is_next};
 use crate::desk::Desk;
 use crate::hall::Hall;
 use crate::word::View;
@@ -16,6 +17,7 @@ use crate::{BookNaming, Made, Pass};
 use atomic_table::Seat;
 use scm_book::{Book, Entry};
 use scm_results::Tally;
+use scm_sequences::MOST_SESSIONS;
 use std::sync::ledger::Share;
 
 /// What an audit finds.
@@ -59,11 +61,57 @@ fn all_follow<B: BookNaming>(passes: &Vec<Pass<B>>, entries: &[Entry]) -> bool
     true
 }
 
+/// Whether these are the passes of the first sessions, in the order of their numbers.
+fn are_in_order<B: BookNaming>(passes: &Vec<Pass<B>>) -> bool
+    ensures { IsTrue result → AreInOrder passes.now.items }
+{
+    for k in 0..passes.len() {
+        if usize::from(passes[k].number()) != k {
+            return false;
+        }
+    }
+    passes.len() <= MOST_SESSIONS
+}
+
+/// Whether each of these passes, in the order of their numbers, kept as many calls as its session has by this count.
+fn are_counted<B: BookNaming>(passes: &Vec<Pass<B>>, counts: &[usize; MOST_SESSIONS]) -> bool
+    requires { AreInOrder passes.now.items }
+    ensures { IsTrue result ↔ AreCounted passes.now.items counts.now }
+{
+    for k in 0..passes.len() {
+        if passes[k].kept().len() != counts[k] {
+            return false;
+        }
+    }
+    true
+}
+
+/// Whether the passes, which are in the order of their numbers, agree with the journal: each entry meets the next call that
+/// its session's pass kept. It goes over the journal once, however many passes there are.
+fn agree_in_order<B: BookNaming>(passes: &Vec<Pass<B>>, entries: &[Entry]) -> bool
+    requires { AreInOrder passes.now.items }
+    ensures { IsTrue result ↔ Agree passes.now.items (map entry_data entries.now) }
+{
+    let mut counts = [0usize; MOST_SESSIONS];
+    for entry in entries {
+        let session = usize::from(entry.session);
+        if session >= passes.len() || !is_next(passes[session].kept(), counts[session], entry) {
+            return false;
+        }
+        counts[session] += 1;
+    }
+    are_counted(passes, &counts)
+}
+
 /// Whether the passes agree with the journal.
 fn agree<B: BookNaming>(passes: &Vec<Pass<B>>, entries: &[Entry]) -> bool
     ensures { IsTrue result ↔ Agree passes.now.items (map entry_data entries.now) }
 {
-    is_covered(passes, entries) && all_follow(passes, entries)
+    if are_in_order(passes) {
+        agree_in_order(passes, entries)
+    } else {
+        is_covered(passes, entries) && all_follow(passes, entries)
+    }
 }
 
 /// Takes a pass apart, which fits the journal.

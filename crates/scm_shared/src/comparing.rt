@@ -3,6 +3,7 @@ ghost use Rattle.std.specs.Prelude.{◌≡◌, ◌↔◌, IsTrue, map};
 ghost use Rattle.scm_book.specs.Calls.{call_data, reply_data, entry_data};
 ghost use Rattle.scm_book.specs.Callers.{calls_by, pair_data};
 ghost use Rattle.scm_shared.specs.Audits.{pair_of};
+ghost use Rattle.scm_shared.specs.Meeting.{IsNext};
 
 use scm_amo::AmoKind;
 use scm_book::{Call, Decl, Entry, Reply, Shown};
@@ -193,6 +194,13 @@ fn is_of_entry(kept: &(Call, Reply), entry: &Entry) -> bool
     same_call(&kept.0, &entry.call) && same_reply(&kept.1, &entry.reply)
 }
 
+/// Whether this is the call and the reply of the next that was kept.
+pub(crate) fn is_next(kept: &[(Call, Reply)], next: usize, entry: &Entry) -> bool
+    ensures { IsTrue result ↔ IsNext kept.now next (entry_data entry.now) }
+{
+    next < kept.len() && is_of_entry(&kept[next], entry)
+}
+
 /// Whether these are just the calls and replies of a session's entries, in order.
 pub(crate) fn follows(session: u16, kept: &[(Call, Reply)], entries: &[Entry]) -> bool
     ensures { IsTrue result ↔ (map pair_data kept.now ≡ calls_by session (map entry_data entries.now)) }
@@ -200,7 +208,7 @@ pub(crate) fn follows(session: u16, kept: &[(Call, Reply)], entries: &[Entry]) -
     let mut next = 0;
     for entry in entries {
         if entry.session == session {
-            if next == kept.len() || !is_of_entry(&kept[next], entry) {
+            if !is_next(kept, next, entry) {
                 return false;
             }
             next += 1;

@@ -1,10 +1,8 @@
-use Rattle.std.proofs.Common.{◌≤◌, length, drop}
-use Rattle.std.specs.Prelude.{◌↔◌}
-use Rattle.scm_shared.proofs.Following.{Follow}
+use Rattle.std.proofs.Common.{map}
+use Rattle.scm_book.specs.Callers.{pair_data}
+use Rattle.scm_shared.proofs.Following.{IsLeft}
 use Rattle.scm_shared.proofs.comparing.follows.Given as goal
 
 -- what is left of both decides
 abbrev pub invariant-loop-entry : goal.invariant-loop-entry
-invariant-loop-entry l =
-    (l.next ≤ length l.kept)
-    × (Follow l.session l.kept l.entries ↔ Follow l.session (drop l.next l.kept) (drop l.entry-index l.entries))
+invariant-loop-entry l = IsLeft l.session (map pair_data l.kept) l.entries l.next l.entry-index
