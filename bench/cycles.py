@@ -53,7 +53,7 @@ def buffered(rng, procs, length, cells, values=0):
 
 
 def refuted(reply):
-    """The number of a list's orders, None where there is no list."""
+    """The number of a list's lines, None where there is no list."""
     words = reply.split()
     return int(words[2]) if words[1] == b"cycle" else None
 
@@ -88,12 +88,12 @@ def small(program, name, values, samples):
     show(name, inconsistent, lengths, [])
 
 
-def large(program, name, procs, length, samples):
+def large(program, name, procs, length, samples, values=0):
     """Of large traces of buffered stores: how many are refuted, and the time of that, without the reports'."""
     rng = random.Random(name)
     made, lengths, times = 0, [], []
     for _ in range(samples):
-        memory, count = buffered(rng, procs, length, 8)
+        memory, count = buffered(rng, procs, length, 8, values)
         lines = list(traces.script(memory, count))
         _, reporting = schedules.run(program, lines[:-1])
         replies, taken = schedules.run(program, [*lines[:-1], "a cycle t"])
@@ -119,6 +119,7 @@ def main():
     small(program, "small, unique values", 0, samples)
     small(program, "small, three values", 3, samples)
     small(program, "small, two values", 2, samples)
+    large(program, "8 x 200, 32 values", 8, 200, samples, 32)
     large(program, "8 x 100, unique values", 8, 100, samples)
     large(program, "8 x 1000, unique values", 8, 1_000, samples)
     large(program, "16 x 1000, unique values", 16, 1_000, max(1, samples // 3))

@@ -116,8 +116,16 @@ function scheduleOf([, count, ...found]) {
 }
 
 function orderOf(word, number) {
-  const [, start, end, reason, one, two] = word.match(/^(\d+\.\d+)<(\d+\.\d+):([a-z-]+)(?::(\d+):(\d+))?$/);
-  return { number, start, end, reason, rests: one === undefined ? [] : [Number(one), Number(two)] };
+  const [, from, sign, end, rule, by, hints] = word.match(/^(\d+\.\d+|-)([<~/])(\d+\.\d+):([a-z-]+)(?::(\d+\.\d+))?((?::\d+)*)$/);
+  const isFirst = from === "-";
+  const rests = hints.split(":").slice(1).map(Number);
+  return { number, start: isFirst ? end : from, end, sign: isFirst ? "-" : sign, rule, by, rests, isWrong: !isFirst && isUpTo(end, from) };
+}
+
+// Whether both are of one process, and the one is the other or stands before it.
+function isUpTo(one, other) {
+  const [[process, place], [otherProcess, otherPlace]] = [one, other].map((at) => at.split(".").map(Number));
+  return process === otherProcess && place <= otherPlace;
 }
 
 // The situations with the most operations: none leads on, since a longer one would be in the list.

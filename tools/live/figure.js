@@ -3,15 +3,15 @@
 const sizes = JSON.parse(document.getElementById("sizes").textContent);
 const MOST_DRAWN = 400;
 const TRIED_PLACES = [0.5, 0.4, 0.6, 0.3, 0.7, 0.2, 0.8, 0.1, 0.9];
-const REASONS = {
-  program: "one process did both, in this order",
-  source: "it is the write that was read: nothing else is left",
-  initial: "it read what was there at first, so it came before",
-  joined: "two orders joined",
-  hidden: "two orders joined; what stands between them writes what is read",
+const RULES = {
+  source: "nothing else is left that it can have read",
+  "after-all": "whatever it read was written there or later",
+  "before-all": "whatever it read was written before the other one wrote",
+  joined: "one order after the other, along processes between them",
+  hidden: "what stands between them writes what is read",
   "after-source": "the read saw the second write, and the first one stands before that read",
-  "before-next": "it read what the other one wrote over",
 };
+const SAID = { "<": ["", " before "], "~": ["", " is seen by "], "/": ["", " is hidden from "], "-": ["first contents are seen by ", ""] };
 const NOTHING_LEFT = "there is nothing left that it can have read";
 const SIGNS = { consistent: "\u2713", inconsistent: "\u2717", undecided: "?" };
 
@@ -161,7 +161,7 @@ function number(orders, boxes) {
   }
 }
 
-const kindOf = ({ start, end, reason }) => (start === end ? "wrong" : ["joined", "hidden"].includes(reason) ? "joined" : "plain");
+const kindOf = ({ isWrong, rule }) => (isWrong ? "wrong" : ["joined", "hidden"].includes(rule) ? "joined" : "plain");
 
 function drawnOrder(order) {
   const [[a, b], ...others] = order.points;
@@ -230,10 +230,13 @@ const choice = (number, key, kind, ...children) => element("li", {}, element("di
 const code = (words) => element("code", {}, escaped(words));
 
 function orderLine(order) {
-  const head = order.start === order.end ? `a contradiction: ${order.start} would stand before itself` : `${order.start} before ${order.end}`;
-  const rests = order.rests.length > 0 ? `, by orders ${order.rests.join(" and ")}` : "";
-  const why = order.reason === "source" && order.start === order.end ? NOTHING_LEFT : REASONS[order.reason];
-  const words = [element("strong", {}, head), "<br/>", `${why}${rests} `, element("span", { class: "reason" }, order.reason)];
+  const [before, between] = SAID[order.sign];
+  const said = `${before}${order.sign === "-" ? "" : order.start}${between}${order.end}`;
+  const head = order.isWrong ? `a contradiction: ${said}` : said;
+  const rests = order.rests.length > 0 ? `, by order ${order.rests.join(", ")}` : "";
+  const why = order.rule === "after-all" && order.start === order.end ? NOTHING_LEFT : RULES[order.rule];
+  const by = order.by ? ` (${order.by})` : "";
+  const words = [element("strong", {}, head), "<br/>", `${why}${by}${rests} `, element("span", { class: "reason" }, order.rule)];
   return choice(order.number, "data-order", kindOf(order), element("span", { class: "number" }, order.number), element("span", {}, ...words));
 }
 
@@ -270,8 +273,8 @@ function stepsData(picture, boxes) {
 
 function explained(picture, boxes, colours) {
   if (picture.orders) {
-    const orders = picture.orders.map(({ start, end, rests }) => ({ ops: [start, end], rests }));
-    return { data: { orders }, words: "No interleaving explains it: each order of the list holds in every legal schedule, and the last one can't.", panel: element("ol", { class: "orders", start: 0 }, ...picture.orders.map(orderLine)) };
+    const orders = picture.orders.map(({ start, end, by, rests }) => ({ ops: [start, end, ...(by ? [by] : [])], rests }));
+    return { data: { orders }, words: "No interleaving explains it: each order of the list holds in every legal schedule, with those of the processes, and the last one can't.", panel: element("ol", { class: "orders", start: 0 }, ...picture.orders.map(orderLine)) };
   }
   if (picture.stuck) {
     const list = element("ol", { class: "orders" }, ...picture.stuck.map((it, at) => stuckLine(it, at, picture)));

@@ -5,7 +5,6 @@ import os
 import textwrap
 
 from tester.drawing import HEAD, SMALL, element, first_contents
-from tester.reasons import place
 from tester.views import swatch
 
 HERE = os.path.dirname(os.path.abspath(__file__))
@@ -114,5 +113,5 @@ def alone(view, title):
 
 
 def wrapped(order):
-    head = f"{order.number:>3}  {place(order.start)} < {place(order.end)}  "
+    head = f"{order.number:>3}  {order.head}  "
     return textwrap.wrap(order.words, WORDS, initial_indent=head, subsequent_indent=" " * len(head))

@@ -1,29 +1,34 @@
-"""The orders of a short refutation in words, as docs/LANGUAGE.md reads them, and what each of them rests on."""
+"""The lines of a short refutation in words, as docs/LANGUAGE.md reads them, and what each of them rests on: orders, for a
+picture, that count up to the orders of processes."""
 from dataclasses import dataclass
 
-from model.machine import OPEN, Edges, edge_of
+from model.machine import FIRST, OPEN, Derivation, is_earlier, is_up_to, line_of
 from tester.monitor import Stop
 
 
 @dataclass
 class Order:
-    """An operation stands before another one."""
+    """An operation stands before another one; or a read, which is both, sees first contents."""
 
     number: int
     start: tuple
     end: tuple
-    reason: str
+    rule: str
+    head: str  # as the line begins
+    says: str
     words: str
-    rests: list  # the numbers of the earlier orders that the reason goes by
-
-    @property
-    def is_contradiction(self):
-        return self.start == self.end
+    rests: list  # the numbers of the earlier orders that the rule goes by
+    between: tuple | None  # what hides the one from the other
+    is_contradiction: bool
 
     @property
     def is_derived(self):
-        """Whether it only joins two others."""
-        return self.reason in ("joined", "hidden")
+        """Whether it only joins others."""
+        return self.rule in ("joined", "hidden")
+
+    @property
+    def named(self):
+        return {self.start, self.end} | ({self.between} if self.between else set())
 
 
 def orders_of(recording, reply):
@@ -32,95 +37,135 @@ def orders_of(recording, reply):
     if words[0] != "cycle":
         return None
     reasons = Reasons(recording)
-    return [reasons.order(number, edge_of(word)) for number, word in enumerate(words[2:])]
+    return [reasons.order(number, word) for number, word in enumerate(words[2:])]
 
 
 def place(at):
     return f"{at[0]}.{at[1]}"
 
 
-class Reasons(Edges):
-    """Reads a refutation from its first order on."""
+def listed(parts):
+    *others, last = parts
+    return f"{', '.join(others)} and {last}" if others else last
+
+
+class Reasons(Derivation):
+    """Reads a refutation from its first line on."""
 
     def __init__(self, recording):
         super().__init__(recording.trace, recording.lengths)
         self.recording = recording
 
-    def order(self, number, edge):
-        if not self.follows(edge):
-            raise Stop(f"order {number} of the refutation doesn't follow by docs/LANGUAGE.md: an error of the monitor", 70)
-        rests = list(edge.numbers)
-        words = getattr(self, f"{edge.reason.replace('-', '_')}_words")(edge.start, edge.end, rests)
-        if edge.start == edge.end and edge.reason != "source":
+    def order(self, number, word):
+        line = line_of(word)
+        if not line or not self.follows(line):
+            raise Stop(f"line {number} of the refutation doesn't follow by docs/LANGUAGE.md: an error of the monitor", 70)
+        start = line.end if line.start is FIRST else line.start
+        is_contradiction = line.start is not FIRST and is_up_to(line.end, line.start)
+        words = getattr(self, f"{line.rule.replace('-', '_')}_words")(line)
+        if is_contradiction and line.start != line.end:
+            words += f": but it stands behind {place(line.end)}"
+        elif is_contradiction and line.rule != "after-all":
             words += ": it would stand before itself"
-        self.earlier.append(edge)
-        return Order(number, edge.start, edge.end, edge.reason, f"{words}.", rests)
+        self.earlier.append(line)
+        return Order(number, start, line.end, line.rule, word.split(":")[0], self.says(line), f"{words}.", list(line.hints), line.by, is_contradiction)
+
+    def says(self, line):
+        if line.start is FIRST:
+            return f"{place(line.end)} sees first contents"
+        one, other = place(line.start), place(line.end)
+        return {"<": f"{one} before {other}", "~": f"{other} sees {one}", "/": f"{other} doesn't see {one}"}[line.sign]
 
     def named(self, at):
         return f"{place(at)} ({self.recording.text(at)})"
 
     def cell_of(self, at):
-        return self.recording.cells[self.operation_at(at)[1]]
+        return self.recording.cells[self.operations[at][1]]
 
-    def operation_at(self, at):
-        return self.operations[at]
+    def joined_words(self, line):
+        at, steps = line.start, []
+        for number in line.hints:
+            hint = self.earlier[number]
+            steps += [] if at == hint.start else [f"{place(hint.start)} in process {at[0]}"]
+            steps.append(f"{place(hint.end)} by order {number}")
+            at = hint.end
+        steps += [] if at == line.end else [f"{place(line.end)} in process {at[0]}"]
+        if not line.hints:
+            return f"Process {at[0]} did {self.named(line.start)} before {self.named(line.end)}"
+        return f"{self.named(line.start)} comes before {self.named(line.end)}: after it {listed(steps)}"
 
-    def program_words(self, a, b, _rests):
-        return f"Process {a[0]} did {self.named(a)} before {self.named(b)}"
+    def hidden_words(self, line):
+        by = f", by {listed([f'order {number}' for number in line.hints])}" if line.hints else ""
+        return f"{self.named(line.by)} writes {self.cell_of(line.end)} between {self.named(line.start)} and {self.named(line.end)}{by}: so {place(line.end)} sees neither {place(line.start)} nor an earlier write of process {line.start[0]}"
 
-    def joined_words(self, a, b, rests):
-        return f"{self.named(a)} comes before {self.named(b)}: order {rests[0]}, then order {rests[1]}"
+    def source_words(self, line):
+        others = self.candidates_words(line, line.end, lambda candidate, hint: None)
+        seen = f"what {self.cell_of(line.end)} held at first" if line.start is FIRST else self.named(line.start)
+        return f"{self.named(line.end)} saw {seen}: {others}"
 
-    def hidden_words(self, a, b, rests):
-        between = self.earlier[rests[0]].end
-        return f"{self.joined_words(a, b, rests)}. {self.named(between)} stands between them and writes {self.cell_of(b)}, so {place(b)} doesn't see {place(a)}"
+    def after_all_words(self, line):
+        if line.start == line.end:
+            return f"{self.named(line.end)} can see nothing: {self.candidates_words(line, line.end, lambda candidate, hint: None)}"
 
-    def after_source_words(self, a, b, rests):
-        read = self.earlier[rests[0]].end
-        return f"{place(read)} saw {self.named(b)}, by order {rests[0]}. {self.named(a)} writes {self.cell_of(b)} too, before that read by order {rests[1]}: so before {place(b)}, or it would be seen"
+        def left(candidate, hint):
+            return f"after {place(line.start)}" if candidate is not FIRST and self.is_after(line.start, candidate, hint) else None
+        return f"{self.named(line.end)} comes after {self.named(line.start)}, since what it saw does: {self.candidates_words(line, line.end, left)}"
 
-    def before_next_words(self, a, b, rests):
-        seen = self.earlier[rests[0]].start
-        return f"{self.named(a)} saw {place(seen)}, by order {rests[0]}. {self.named(b)} writes {self.cell_of(a)} too, after {place(seen)} by order {rests[1]}: so {place(a)} has read before"
+    def before_all_words(self, line):
+        def left(candidate, hint):
+            return f"before {place(line.end)}" if candidate is FIRST or self.is_after(candidate, line.end, hint) and candidate != line.end else None
+        return f"{self.named(line.start)} comes before {self.named(line.end)}, which writes {self.cell_of(line.start)} too, since what it saw does: {self.candidates_words(line, line.start, left)}"
 
-    def source_words(self, a, b, rests):
-        others = self.others_ruled_out(a, b, rests)
-        first = self.first_ruled_out(b, rests)
-        if a == b:
-            return f"{self.named(b)} can see nothing: {others}, and {first}"
-        return f"{self.named(b)} saw {self.named(a)}: {others}, and {first}"
+    def after_source_words(self, line):
+        number = next(number for number in line.hints if self.earlier[number].sign == "~" and self.earlier[number].start == line.end)
+        read = self.earlier[number].end
+        by = "".join(f" by order {other}" for other in line.hints if other != number)
+        return f"{place(read)} saw {self.named(line.end)}, by order {number}. {self.named(line.start)} writes {self.cell_of(read)} too, before that read{by}: so before {place(line.end)}, or it would be seen"
 
-    def initial_words(self, a, b, rests):
-        cell, value = self.read(a)
-        what = f"writes {self.cell_of(a)}" if self.writes(b, cell) else "read another value of it"
-        return f"{self.named(a)} saw what {self.cell_of(a)} held at first, since {self.others_ruled_out(a, a, rests)}. So it comes before {self.named(b)}, which {what}"
+    def is_after(self, one, other, hint):
+        """Whether the other operation is the one or comes after it, by their process or by this hint."""
+        return is_up_to(one, other) if hint is None else self.shows(hint, one, other)
 
-    def others_ruled_out(self, but, read, rests):
-        """Why the read sees no write of its value but this one."""
+    def candidates_words(self, line, read, left):
+        """What is known of each write that the read might see by its value, and of first contents."""
         cell, value = self.read(read)
-        writes = [at for at, (kind, written, _, new) in self.operations.items() if kind != "R" and (written, new) == (cell, value) and at not in (but, read)]
-        what = f"{value} to {self.recording.cells[cell]}"
-        if not writes:
-            return f"no {'other ' if but != read else ''}operation writes {what}"
-        reasons = []
-        for write in writes:
-            number, edge = self.ruling_out(write, read)
-            rests.append(number)
-            reasons.append(f"{place(write)} {'comes later' if edge.start == read else 'is overwritten before'} by order {number}")
-        return f"of the {'other ' if but != read else ''}writes of {what} {', '.join(reasons)}"
+        what, found = f"{value} to {self.recording.cells[cell]}", {}
+        others = [at for at in self.candidates(read) if at not in (FIRST, line.start if line.sign == "~" else FIRST)]
+        for candidate in others:
+            found.setdefault(self.known_of(candidate, line, read, left), []).append(candidate)
+        other = "other " if line.sign == "~" and line.start is not FIRST or self.operations[read][0] == "RW" else ""
+        writes = "; ".join(f"{listed([place(at) for at in places])} {known}" for known, places in found.items())
+        said = f"of the {other}writes of {what} {writes}" if others else f"no {other}operation writes {what}"
+        if line.start is FIRST:
+            return said
+        return f"{said}, and {self.first_words(line, read, left)}"
 
-    def ruling_out(self, write, read):
-        found = ((n, e) for n, e in enumerate(self.earlier) if (e.start, e.end) == (read, write) or e.reason == "hidden" and (e.start, e.end) == (write, read))
-        return next(found)
+    def known_of(self, candidate, line, read, left):
+        """Why the read doesn't see the write, or how it is what is left."""
+        if is_earlier(read, candidate):
+            return "later"
+        if left(candidate, None):
+            return left(candidate, None)
+        for number in line.hints:
+            hint = self.earlier[number]
+            if self.rules_out(hint, candidate, read):
+                return f"{self.ruled_out_words(hint, candidate, read)} by order {number}"
+            if left(candidate, hint):
+                return f"{left(candidate, hint)} by order {number}"
+        return "unknown"
 
-    def first_ruled_out(self, read, rests):
-        """Why the read doesn't see first contents."""
+    def ruled_out_words(self, hint, candidate, read):
+        if hint.sign == "~" and hint.end == read:
+            return "not what is seen"
+        return "later" if self.shows(hint, read, candidate) else "overwritten before"
+
+    def first_words(self, line, read, left):
         cell, value = self.read(read)
-        first = self.recording.trace.first[cell]
+        name, first = self.recording.cells[cell], self.recording.trace.first[cell]
         if first is not OPEN and first != value:
-            return f"{self.recording.cells[cell]} held {first} at first"
-        number, edge = next((n, e) for n, e in enumerate(self.earlier) if e.end == read and (self.writes(e.start, cell) or e.reason == "initial" and self.read_other(e.start, cell, value)))
-        rests.append(number)
-        if self.writes(edge.start, cell):
-            return f"what it held at first is gone, since {place(edge.start)} writes it before, by order {number}"
-        return f"it held another value at first, by order {number}"
+            return f"{name} held {first} at first"
+        for number in line.hints:
+            hint = self.earlier[number]
+            if self.rules_out(hint, FIRST, read):
+                return f"it held another value at first, by order {number}" if hint.start is FIRST else f"what it held at first is gone, since {place(hint.start)} writes it before, by order {number}"
+        return f"{name} held {'something' if first is OPEN else first} at first"

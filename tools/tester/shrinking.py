@@ -161,7 +161,7 @@ class Shrinking:
         """While a short refutation is found, what it names stays, with each write of a value that is read of these."""
         size = None
         while self.orders and size != (size := len(self.recording.operations)):
-            kept = with_writers(self.recording, {at for order in self.orders for at in (order.start, order.end)})
+            kept = with_writers(self.recording, {at for order in self.orders for at in order.named})
             if len(kept) < size:
                 self.accept(self.recording.only(kept))
 

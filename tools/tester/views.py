@@ -69,26 +69,26 @@ def figures(recording, colours, named, shape, arrange, **how):
 # ---- a short refutation
 
 def refuted(recording, orders, answer):
-    named = {at for order in orders for at in (order.start, order.end)}
+    named = {at for order in orders for at in order.named}
     colours = Colours(recording, sorted(named))
     pairs = [(order.start, order.end) for order in orders]
     figure, whole = figures(recording, colours, named, ROOMY, lambda lanes: place_by_orders(lanes, pairs), orders=orders, pale=lambda at: at not in named)
-    words = "No interleaving explains it: each order of the list holds in every legal schedule, and the last one can't."
+    words = "No interleaving explains it: each order of the list holds in every legal schedule, with those of the processes, and the last one can't."
     if answer == "undecided":
         words += " (By its situations alone the question is undecided within the budget.)"
     panel = listed((order_line(order) for order in orders), class_="orders", start=0)
-    data = {"orders": [{"ops": [place(order.start), place(order.end)], "rests": order.rests} for order in orders]}
+    data = {"orders": [{"ops": [place(at) for at in (order.start, order.end, *order.named - {order.start, order.end})], "rests": order.rests} for order in orders]}
     return View("inconsistent", words, colours, figure, whole, panel, data, sum(order.is_derived and not order.is_contradiction for order in orders))
 
 
 def order_line(order):
-    head = "a contradiction" if order.is_contradiction else f"{place(order.start)} before {place(order.end)}"
+    head = "a contradiction" if order.is_contradiction else order.says
     return element(
         "li",
         element(
             "div",
             element("span", str(order.number), class_="number"),
-            element("span", element("strong", head), f' <span class="reason">{order.reason}</span><br/>{linked(order.words)}'),
+            element("span", element("strong", head), f' <span class="reason">{order.rule}</span><br/>{linked(order.words)}'),
             class_=f"choice {'wrong' if order.is_contradiction else ''}", role="button", tabindex=0, aria_pressed="false", data_order=order.number,
         ),
         value=order.number,

@@ -92,7 +92,7 @@ still_other (consistent schedule fixed) effect other still h = h
 still_other inconsistent effect other still h = h
 still_other undecided effect other still h = h
 still_other (because situations) effect other still h = h
-still_other (cycle edges) effect other still h = h
+still_other (cycle lines hints) effect other still h = h
 still_other unknown effect other still h = h
 still_other (ops operations) effect other still h = h
 still_other (listed names) effect other still h = h
@@ -142,7 +142,7 @@ known_counted (consistent schedule fixed) sequences lengths old new before after
 known_counted (consistent schedule fixed) sequences lengths old new before after (inr idle) = inr (idle.0, omega (arith, idle.1))
 known_counted inconsistent sequences lengths old new before after known = known
 known_counted (because situations) sequences lengths old new before after known = known
-known_counted (cycle edges) sequences lengths old new before after known = known
+known_counted (cycle lines hints) sequences lengths old new before after known = known
 known_counted unknown sequences lengths old new before after known = known
 known_counted done sequences lengths old new before after known = known
 known_counted (marked mark) sequences lengths old new before after known = known

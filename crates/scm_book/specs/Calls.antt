@@ -4,7 +4,7 @@ use Rattle.scm_sequences.specs.declared.refusal.Refusal.{Refusal}
 use Rattle.scm_lowering.specs.declared.access.Access.{Access}
 use Rattle.scm_frontier.specs.Situated.{Situated}
 use Rattle.scm_expand.specs.Outcomes.{Expanded}
-use Rattle.scm_orders.specs.declared.edge.Edge.{Edge}
+use Rattle.scm_orders.specs.declared.derivation.Line.{Line}
 use Rattle.scm_book.specs.declared.call.Decl.{Decl}
 use Rattle.scm_book.specs.declared.call.Call.{Call}
 use Rattle.scm_book.specs.declared.call.Call.TheVariants.{OpenTrace, ClaimProcess, ReleaseProcess, Report, SetMark, GoBack, RaiseBudget, Ask, Why, Cycle, ShowOps, ListTraces, CloseTrace}
@@ -49,8 +49,8 @@ pub data ReplyData : Type 0 where
   undecided : ReplyData
   -- the situations of a refutation
   because : List Situated → ReplyData
-  -- the edges of a short refutation
-  cycle : List Edge → ReplyData
+  -- the lines of a short refutation, and the hints of all of them
+  cycle : List Line → List ℕ → ReplyData
   unknown : ReplyData
   -- operations, each with the name of its cell
   ops : List Shown → ReplyData
@@ -95,7 +95,7 @@ reply_data (Consistent schedule fixed) = consistent schedule.items fixed.items
 reply_data Inconsistent = inconsistent
 reply_data Undecided = undecided
 reply_data (Because situations) = because situations.items
-reply_data (CycleFound edges) = cycle edges.items
+reply_data (CycleFound derivation) = cycle derivation.lines.items derivation.hints.items
 reply_data Unknown = unknown
 reply_data (Ops operations) = ops operations.items
 reply_data (Traces names) = listed names.items

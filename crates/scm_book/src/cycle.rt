@@ -8,39 +8,39 @@ ghost use Rattle.scm_book.specs.Verdicts.{IsRefutedBy, FitsCycle};
 use crate::Reply;
 use scm_cells::Cells;
 use scm_cycles::find_cycle;
-use scm_orders::{Edge, orders_refute};
+use scm_orders::{Derivation, orders_refute};
 use scm_sequences::{Lengths, Sequences};
 use std::alloc::Global;
 
-/// These edges, where they refute the trace with these first contents and sequences, cut to these lengths.
+/// This derivation, where it refutes the trace with these first contents and sequences, cut to these lengths.
 fn judged(
     initials: &[Option<u64>],
     sequences: &Sequences,
     lengths: &Lengths,
-    edges: Vec<Edge>,
-) -> Option<Vec<Edge>>
-    ensures { IfSome result (λ edges. IsRefutedBy (cut_to (trace_of initials.now sequences.now) lengths.now) edges.items) }
+    derivation: Derivation,
+) -> Option<Derivation>
+    ensures { IfSome result (λ derivation. IsRefutedBy (cut_to (trace_of initials.now sequences.now) lengths.now) derivation.lines.items derivation.hints.items) }
 {
-    if orders_refute(initials, sequences, lengths, &edges) {
-        Some(edges)
+    if orders_refute(initials, sequences, lengths, &derivation) {
+        Some(derivation)
     } else {
         None
     }
 }
 
-/// Edges that refute the trace with these cells and sequences, cut to these lengths. `None` where none were found, where
-/// those that were found refute nothing, and where memory is refused.
-fn refuting_edges(
+/// A derivation that refutes the trace with these cells and sequences, cut to these lengths. `None` where none was found,
+/// where the one that was found refutes nothing, and where memory is refused.
+fn refutation(
     alloc: Global,
     cells: &Cells,
     sequences: &Sequences,
     lengths: &Lengths,
-) -> Option<Vec<Edge>>
-    ensures { IfSome result (λ edges. IsRefutedBy (cut_to (trace_of (initials_of cells.now) sequences.now) lengths.now) edges.items) }
+) -> Option<Derivation>
+    ensures { IfSome result (λ derivation. IsRefutedBy (cut_to (trace_of (initials_of cells.now) sequences.now) lengths.now) derivation.lines.items derivation.hints.items) }
 {
     let initials = cells.initials().ok()?;
-    let edges = find_cycle(alloc, &initials, sequences, lengths)?;
-    judged(&initials, sequences, lengths, edges)
+    let derivation = find_cycle(alloc, &initials, sequences, lengths)?;
+    judged(&initials, sequences, lengths, derivation)
 }
 
 /// The reply to the question for a short refutation of the trace with these cells and sequences, cut to these lengths.
@@ -52,8 +52,8 @@ pub(crate) fn refuted_shortly(
 ) -> Reply
     ensures { FitsCycle (cut_to (trace_of (initials_of cells.now) sequences.now) lengths.now) (reply_data result) }
 {
-    match refuting_edges(alloc, cells, sequences, lengths) {
-        Some(edges) => Reply::Cycle(edges),
+    match refutation(alloc, cells, sequences, lengths) {
+        Some(derivation) => Reply::Cycle(derivation),
         None => Reply::Unknown,
     }
 }

@@ -6,7 +6,7 @@ ghost use Rattle.scm_book.specs.Changes.{tells_of_change};
 
 use scm_cells::Name;
 use scm_frontier::Situation;
-use scm_orders::Edge;
+use scm_orders::Derivation;
 use scm_sequences::{NoMemory, Op, Refusal};
 use std::alloc::Global;
 
@@ -35,9 +35,9 @@ pub enum Reply {
     Undecided,
     /// No legal schedule exists: all situations that can be reached, in order.
     Because(Vec<Situation>),
-    /// No legal schedule exists: orders that every one would have to keep, of which the last puts an operation before
-    /// itself.
-    Cycle(Vec<Edge>),
+    /// No legal schedule exists: what every one would have to keep, line by line, of which the last puts an operation
+    /// before itself.
+    Cycle(Derivation),
     /// No short refutation was found, which says nothing.
     Unknown,
     /// The operations of a process, in order.
@@ -76,7 +76,10 @@ impl Reply {
             Reply::Because(situations) => {
                 Reply::Because(copy_all(*situations.allocator(), situations)?)
             }
-            Reply::Cycle(edges) => Reply::Cycle(edges.clone()?),
+            Reply::Cycle(derivation) => Reply::Cycle(Derivation {
+                lines: derivation.lines.clone()?,
+                hints: derivation.hints.clone()?,
+            }),
             Reply::Unknown => Reply::Unknown,
             Reply::Ops(operations) => Reply::Ops(operations.clone()?),
             Reply::Traces(names) => Reply::Traces(names.clone()?),

@@ -1,7 +1,7 @@
 //! A short refutation.
 use crate::gathering::gather;
 use crate::search::Search;
-use scm_orders::Edge;
+use scm_orders::Derivation;
 use scm_sequences::{Lengths, Sequences};
 use std::alloc::Global;
 
@@ -10,7 +10,7 @@ const FUEL: u64 = 32_768;
 
 const LEAST_FUEL: u64 = 1_000_000;
 
-/// A list of edges that refutes the trace with these first contents (`None` is an open cell) and these sequences, cut to
+/// A derivation that refutes the trace with these first contents (`None` is an open cell) and these sequences, cut to
 /// these lengths, or `None` where none was found: where a schedule exists, where the rules draw too little, after so many
 /// steps for each operation, and where memory is refused. Nothing is promised of it: `scm_orders::orders_refute` tells
 /// whether it is one.
@@ -19,7 +19,7 @@ pub fn find_cycle(
     initials: &[Option<u64>],
     sequences: &Sequences,
     lengths: &Lengths,
-) -> Option<Vec<Edge>> {
+) -> Option<Derivation> {
     let fuel = fuel_for(lengths);
     let mut search = Search::new(alloc, initials, sequences, lengths, fuel)?;
     let closing = search.run()?;

@@ -1,63 +1,62 @@
-//! The list as it is written, line by line.
-use scm_orders::{Edge, Place, Reason};
+//! The derivation as it is written, line by line.
+use indexmap::IndexMap;
+use scm_orders::{Derivation, Fact, Line, Rule};
 use std::alloc::Global;
 
-/// The most lines of a list.
+/// The most lines of a derivation.
 const MOST_LINES: usize = 1 << 16;
 
-/// The lines so far.
+/// The operations that a line is about, the one in the midst first: where there is none, that is the first one again.
+type Key = (u32, u32, u32);
+
+/// The lines so far, and which of them may be needed again.
 #[derive(Drop)]
 pub(crate) struct Lines {
-    pub(crate) edges: Vec<Edge>,
+    pub(crate) derivation: Derivation,
+    known: IndexMap<Key, u32>,
 }
 
 impl Lines {
     pub(crate) fn new(alloc: Global) -> Lines {
         Lines {
-            edges: Vec::new(alloc),
+            derivation: Derivation {
+                lines: Vec::new(alloc),
+                hints: Vec::new(alloc),
+            },
+            known: IndexMap::new(alloc),
         }
-    }
-
-    pub(crate) fn get(&self, line: u32) -> Option<Edge> {
-        self.edges.get(line as usize).copied()
     }
 
     /// Adds a line, and gives its number.
-    pub(crate) fn add(&mut self, from: Place, to: Place, reason: Reason) -> Option<u32> {
-        if self.edges.len() >= MOST_LINES {
+    pub(crate) fn add(&mut self, fact: Fact, rule: Rule, hints: &[u32]) -> Option<u32> {
+        if self.derivation.lines.len() >= MOST_LINES {
             return None;
         }
-        let line = u32::try_from(self.edges.len()).ok()?;
-        self.edges.push(Edge { from, to, reason }).ok()?;
-        Some(line)
-    }
-
-    /// A line that leads from one place to another, if there is one.
-    pub(crate) fn find(&self, from: Place, to: Place) -> Option<u32> {
-        let line = self
-            .edges
-            .iter()
-            .position(|edge| edge.from == from && edge.to == to)?;
-        u32::try_from(line).ok()
-    }
-
-    /// The line for two operations of one process.
-    pub(crate) fn program(&mut self, from: Place, to: Place) -> Option<u32> {
-        match self.find(from, to) {
-            Some(line) => Some(line),
-            None => self.add(from, to, Reason::Program),
+        let number = u32::try_from(self.derivation.lines.len()).ok()?;
+        let first = u32::try_from(self.derivation.hints.len()).ok()?;
+        for hint in hints {
+            self.derivation.hints.push(*hint).ok()?;
         }
-    }
-
-    /// The line that joins two lines; the second where there is no first.
-    pub(crate) fn join(&mut self, first: Option<u32>, second: u32) -> Option<u32> {
-        let Some(first) = first else {
-            return Some(second);
+        let count = u32::try_from(hints.len()).ok()?;
+        let line = Line {
+            fact,
+            rule,
+            first,
+            count,
         };
-        let (from, to) = (self.get(first)?.from, self.get(second)?.to);
-        match self.find(from, to) {
-            Some(line) => Some(line),
-            None => self.add(from, to, Reason::Joined { first, second }),
-        }
+        self.derivation.lines.push(line).ok()?;
+        Some(number)
+    }
+
+    /// The line under this key, if there is one.
+    pub(crate) fn known(&self, key: Key) -> Option<u32> {
+        self.known.get(&key).copied()
+    }
+
+    /// Adds a line that may be needed again.
+    pub(crate) fn keep(&mut self, key: Key, fact: Fact, rule: Rule, hints: &[u32]) -> Option<u32> {
+        let number = self.add(fact, rule, hints)?;
+        let _ = self.known.insert(key, number).ok()?;
+        Some(number)
     }
 }

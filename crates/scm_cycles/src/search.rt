@@ -1,7 +1,7 @@
 //! What comes before what in every legal schedule, as far as it was drawn.
-use crate::candidates::Candidates;
-use crate::drawn::{AllDrawn, Drawn, Why};
-use scm_clocks::{Clocks, Flags, Numbering, Values, Writes};
+use crate::rises::Rises;
+use crate::steps::{Need, Steps, Why};
+use scm_clocks::{Clocks, Flags, Numbering, Values, Writers, Writes};
 use scm_orders::Place;
 use scm_sequences::{Lengths, Sequences};
 use std::alloc::Global;
@@ -9,35 +9,29 @@ use std::alloc::Global;
 /// How many cells a number of 8 bits can name.
 const CELLS: u32 = 256;
 
-/// Clocks (for each operation, how many of each process come before it), the orders that were drawn, and what each read
-/// may see. A method that draws orders gives `None` where the fuel is spent.
+/// Clocks (for each operation, how many of each process come before it), with what raised them, and the steps that were
+/// drawn. A method that draws gives `None` where the fuel is spent.
 #[derive(Drop)]
 pub(crate) struct Search {
+    pub(crate) alloc: Global,
     pub(crate) numbering: Numbering,
     pub(crate) values: Values,
     pub(crate) writes: Writes,
-    pub(crate) candidates: Candidates,
-    pub(crate) drawn: AllDrawn,
+    pub(crate) writers: Writers,
+    pub(crate) steps: Steps,
     pub(crate) procs: u32,
     pub(crate) ops: u32,
+    /// The step that tells which write a read sees, once that is drawn.
+    pub(crate) sources: Vec<Option<u32>>,
+    /// The value that an unset cell held at first, and the step that tells so, once that is drawn.
+    pub(crate) firsts: Vec<Option<(u32, u32)>>,
     clocks: Clocks,
+    rises: Rises,
     /// What has new clocks to bring to those after it.
     flags: Flags,
-    /// The drawn order that closed a cycle, if one did.
+    /// The step that closed a cycle, if one did.
     pub(crate) closing: Option<u32>,
     pub(crate) fuel: u64,
-}
-
-// The clocks where nothing is drawn, what is flagged then, and what is drawn.
-fn nothing_drawn(
-    alloc: Global,
-    numbering: &Numbering,
-    ops: u32,
-) -> Option<(Clocks, Flags, AllDrawn)> {
-    let clocks = Clocks::new(alloc, numbering)?;
-    let flags = Flags::new(alloc, ops)?;
-    let drawn = AllDrawn::new(alloc, ops)?;
-    Some((clocks, flags, drawn))
 }
 
 impl Search {
@@ -56,21 +50,24 @@ impl Search {
 
     // Over these operations and their values.
     fn over(alloc: Global, numbering: Numbering, values: Values, fuel: u64) -> Option<Search> {
-        let procs = numbering.procs()?;
-        let ops = numbering.len()?;
-        let candidates = Candidates::new(alloc, &numbering, &values)?;
+        let (procs, ops) = (numbering.procs()?, numbering.len()?);
         let writes = Writes::new(alloc, CELLS, &numbering, &values)?;
-        let (clocks, flags, drawn) = nothing_drawn(alloc, &numbering, ops)?;
+        let writers = Writers::new(alloc, &numbering, &values)?;
+        let clocks = Clocks::new(alloc, &numbering)?;
         Some(Search {
+            alloc,
             numbering,
             values,
             writes,
-            candidates,
-            drawn,
+            writers,
+            steps: Steps::new(alloc, ops)?,
             procs,
             ops,
+            sources: vec![in alloc; None; ops as usize].ok()?,
+            firsts: vec![in alloc; None; CELLS as usize].ok()?,
             clocks,
-            flags,
+            rises: Rises::new(alloc, procs)?,
+            flags: Flags::new(alloc, ops)?,
             closing: None,
             fuel,
         })
@@ -84,14 +81,66 @@ impl Search {
     }
 
     /// How many operations of a process come before `x`.
-    pub(crate) fn clock(&self, x: u32, process: u32) -> Option<u32> {
+    pub(crate) fn before(&self, x: u32, process: u32) -> Option<u32> {
         self.clocks.get(x, process)
+    }
+
+    /// How many operations of a process come before `x` or are it.
+    pub(crate) fn up_to(&self, x: u32, process: u32) -> Option<u32> {
+        let (owner, at) = self.numbering.spot(x)?;
+        if owner == process {
+            at.checked_add(1)
+        } else {
+            self.before(x, process)
+        }
+    }
+
+    /// From which place on the operations of a process come after `x`.
+    pub(crate) fn after(&self, x: u32, process: u32) -> Option<u32> {
+        let (mut low, mut high) = (0, self.numbering.count(process)?);
+        for _ in 0..high {
+            if low >= high {
+                break;
+            }
+            let middle = low.midpoint(high);
+            if self.is_before(x, self.numbering.number(process, middle)?)? {
+                high = middle;
+            } else {
+                low = middle.checked_add(1)?;
+            }
+        }
+        Some(low)
     }
 
     /// Whether `x` is known to come before `y`.
     pub(crate) fn is_before(&self, x: u32, y: u32) -> Option<bool> {
         let (process, at) = self.numbering.spot(x)?;
-        Some(self.clock(y, process)? > at)
+        Some(self.before(y, process)? > at)
+    }
+
+    /// The steps that lead with the orders of processes from one operation to another that comes after it, as it was known
+    /// first: none where both are of one process, which has them in this order.
+    pub(crate) fn path(&self, from: u32, to: u32) -> Option<Vec<u32>> {
+        let mut path = Vec::new(self.alloc);
+        let (process, at) = self.numbering.spot(from)?;
+        let mut x = to;
+        for _ in 0..=self.steps.len()? {
+            if self.is_from(process, at, x, from != x || !path.is_empty())? {
+                path.reverse();
+                return Some(path);
+            }
+            let spot = self.numbering.spot(x)?;
+            let id = self.rises.first(spot, process, at.checked_add(1)?)?;
+            path.push(id).ok()?;
+            x = self.steps.get(id)?.from;
+        }
+        None
+    }
+
+    // Whether `x` stands at this place of this process, where that counts, or later there.
+    fn is_from(&self, process: u32, at: u32, x: u32, counts: bool) -> Option<bool> {
+        let (owner, place) = self.numbering.spot(x)?;
+        Some(owner == process && place >= at && counts)
     }
 
     pub(crate) fn burn(&mut self, amount: u32) -> Option<()> {
@@ -100,13 +149,13 @@ impl Search {
     }
 
     /// Draws an order, with all that it brings to the clocks. Gives its number.
-    pub(crate) fn draw(&mut self, from: u32, to: u32, why: Why) -> Option<u32> {
-        let id = self.drawn.add(Drawn { from, to, why })?;
+    pub(crate) fn draw(&mut self, from: u32, to: u32, why: Why, needs: &[Need]) -> Option<u32> {
+        let id = self.steps.add(from, to, why, needs)?;
         if from == to || self.is_before(to, from)? {
             self.closing = Some(id);
             return Some(id);
         }
-        if self.absorb(to, from)? {
+        if self.absorb(to, from, Some(id))? {
             self.flags.add(to)?;
             self.spread()?;
         }
@@ -128,48 +177,46 @@ impl Search {
     fn spread_from(&mut self, x: u32) -> Option<()> {
         let (process, at) = self.numbering.spot(x)?;
         if let Some(next) = self.numbering.number(process, at.checked_add(1)?) {
-            self.follow(next, x)?;
+            self.follow(next, x, None)?;
         }
-        self.follow_drawn(x)
-    }
-
-    // Follows the drawn orders that leave from `x`.
-    fn follow_drawn(&mut self, x: u32) -> Option<()> {
-        let mut leaving = self.drawn.newest(x);
-        for _ in 0..self.drawn.len()? {
+        let mut leaving = self.steps.newest(x);
+        for _ in 0..self.steps.len()? {
             let Some(id) = leaving else {
                 break;
             };
-            let drawn = self.drawn.get(id)?;
-            self.follow(drawn.to, x)?;
-            leaving = self.drawn.older(id);
+            let to = self.steps.get(id)?.to;
+            self.follow(to, x, leaving)?;
+            leaving = self.steps.older(id);
         }
         Some(())
     }
 
-    fn follow(&mut self, y: u32, x: u32) -> Option<()> {
-        if self.absorb(y, x)? {
+    fn follow(&mut self, y: u32, x: u32, by: Option<u32>) -> Option<()> {
+        if self.absorb(y, x, by)? {
             self.flags.add(y)?;
         }
         Some(())
     }
 
-    // Puts `y` after `x` and all that comes before it. Whether something of that is new.
-    fn absorb(&mut self, y: u32, x: u32) -> Option<bool> {
-        let (owner, at) = self.numbering.spot(x)?;
-        let mut is_new = self.raise(y, owner, at.checked_add(1)?)?;
+    // Puts `y` after `x` and all that comes before it, by this step, or by the order of their process. Whether something of
+    // that is new.
+    fn absorb(&mut self, y: u32, x: u32, by: Option<u32>) -> Option<bool> {
+        let mut is_new = false;
         for process in 0..self.procs {
-            let count = self.clock(x, process)?;
-            is_new = self.raise(y, process, count)? || is_new;
+            let count = self.up_to(x, process)?;
+            if self.before(y, process)? < count {
+                self.raise(y, process, count, by)?;
+                is_new = true;
+            }
         }
         Some(is_new)
     }
 
-    fn raise(&mut self, y: u32, process: u32, count: u32) -> Option<bool> {
-        if self.clock(y, process)? >= count {
-            return Some(false);
+    fn raise(&mut self, y: u32, process: u32, count: u32, by: Option<u32>) -> Option<()> {
+        if let Some(id) = by {
+            let spot = self.numbering.spot(y)?;
+            self.rises.add(spot, process, count, id)?;
         }
-        self.clocks.set(y, process, count)?;
-        Some(true)
+        self.clocks.set(y, process, count)
     }
 }

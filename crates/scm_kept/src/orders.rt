@@ -1,41 +1,60 @@
-//! Lists of derived orders, judged, and found where there are some: worked examples.
+//! Derivations, judged, and found where there are some: worked examples.
 use crate::litmus::ROWS;
 use crate::traces::{INITIALS, lengths_in, parts_of, read, sequences_in, sequences_of};
 use scm_cycles::find_cycle;
-use scm_orders::{Edge, Place, Reason, orders_refute};
+use scm_orders::{Derivation, Fact, Line, Place, Rule, orders_refute};
 use scm_sequences::{Lengths, Sequences};
 use std::alloc::Global;
 use std::process::Abort;
 
-/// Traces of four processes, cut where there is a mark, and lists as replies write them.
+/// Traces of four processes, cut where there is a mark, and derivations as replies write them.
 const LISTS: &str = "
-    0Wx1 0Ry0 1Wy1 1Rx0: 0.0<0.1:program 0.1<1.0:initial 1.0<1.1:program 1.1<0.0:initial 0.0<1.0:joined:0:1 0.0<1.1:joined:4:2 0.0<0.0:joined:5:3 => refuted
-    0Wx1 0Wy1 1Ry1 1Rx0: 0.0<0.1:program 0.1<1.0:source 1.0<1.1:program 1.1<0.0:initial 0.0<1.0:joined:0:1 0.0<1.1:joined:4:2 0.0<0.0:joined:5:3 => refuted
-    0Rx1 0Wy1 1Ry1 1Wx1: 1.1<0.0:source 0.0<0.1:program 0.1<1.0:source 1.0<1.1:program 1.1<0.1:joined:0:1 1.1<1.0:joined:4:2 1.1<1.1:joined:5:3 => refuted
-    0Wx1 0Wx2 1Rx2 1Rx1: 0.1<1.0:source 1.0<1.1:program 0.0<1.1:source 0.1<1.1:joined:0:1 0.1<0.0:after-source:2:3 0.0<0.1:program 0.0<0.0:joined:5:4 => refuted
-    0Rx7: 0.0<0.0:source => refuted
-    0Rx0: 0.0<0.0:source => open
-    0Ux0>1 1Ux0>2: 0.0<1.0:initial 1.0<0.0:initial 0.0<0.0:joined:0:1 => refuted
-    0Wx5 1Ux5>6 2Ux5>7: 0.0<1.0:source 0.0<2.0:source 1.0<2.0:before-next:0:1 2.0<1.0:before-next:1:0 1.0<1.0:joined:2:3 => refuted
-    0Wx1 0Wx2 0Wy1 1Ry1 1Rx1: 0.2<1.0:source 0.1<0.2:program 0.1<1.0:joined:1:0 1.0<1.1:program 0.1<1.1:joined:2:3 0.0<0.1:program 0.0<1.1:hidden:5:4 1.1<1.1:source => refuted
-    0Ro1 1Ro2: 0.0<1.0:initial 1.0<0.0:initial 0.0<0.0:joined:0:1 => refuted
-    0Ro1 1Ro1: 0.0<1.0:initial 1.0<0.0:initial 0.0<0.0:joined:0:1 => open
-    0Ro1 1Rx1 1Wo2 2Ro2 2Wx1: 0.0<2.0:initial 1.1<2.0:source 2.0<2.1:program 2.1<1.0:source 1.0<1.1:program 1.1<2.1:joined:1:2 1.1<1.0:joined:5:3 1.1<1.1:joined:6:4 => refuted
-    0Ro1 1Rx1 1Wo2 2Ro2 2Wx1: 1.0<1.1:program 1.1<2.0:source 2.0<2.1:program 2.1<1.0:source 1.0<1.1:program 1.1<2.1:joined:1:2 1.1<1.0:joined:5:3 1.1<1.1:joined:6:4 => open
+    0Wx1 0Ry0 1Wy1 1Rx0: 0.1<1.0:before-all 0.0<1.1:joined:0 1.1<1.1:after-all:1 => refuted
+    0Wx1 0Wy1 1Ry1 1Rx0: 0.1~1.0:source 0.0<1.1:joined:0 1.1<1.1:after-all:1 => refuted
+    0Rx1 0Wy1 1Ry1 1Wx1: 1.1<0.0:after-all 0.1<1.0:after-all 1.1<1.1:joined:0:1 => refuted
+    0Rx1 0Wy1 1Ry1 1Wx1: 1.1<0.0:after-all 0.1<1.0:after-all 0.1<0.0:joined:1:0 => refuted
+    0Wx1 0Wx2 1Rx2 1Rx1: 0.1~1.0:source 1.1<1.1:after-all:0 => refuted
+    0Wx1 0Wx2 1Rx2 1Rx1: 0.1~1.0:source 0.0~1.1:source 0.1<0.0:after-source:1:0 => refuted
+    0Rx7: 0.0<0.0:after-all => refuted
+    0Ux0>1 1Ux0>2: 0.0<1.0:before-all 1.0<1.0:after-all:0 => refuted
+    0Ux0>1 1Ux0>2: 0.0<1.0:before-all 1.0<0.0:before-all 0.0<0.0:joined:0:1 => refuted
+    0Wx5 1Ux5>6 2Ux5>7: 0.0~1.0:source 0.0~2.0:source 1.0<2.0:before-all:0:1 2.0<1.0:before-all:1:0 1.0<1.0:joined:2:3 => refuted
+    0Wx1 1Rx1 1Wx2 1Wy1 2Ry1 2Rx1: 0.0~1.0:source 1.2~2.0:source 0.0/2.1:hidden:1.1:0:1 2.1<2.1:after-all:2 => refuted
+    0Wy1 1Ry1 1Wx1 2Ry1 2Wx1 3Rx1 3Ry0: 0.0~1.0:source 0.0~2.0:source 0.0<3.0:after-all:0:1 3.1<3.1:after-all:2 => refuted
+    0Wx1 0Wy1 1Wx1 1Wz1 2Ry1 2Rz1 2Wx2 2Wy2 3Ry2 3Rx1: 0.1~2.0:source 1.1~2.1:source 2.3~3.0:source 3.1<2.2:before-all:0:1 3.1<3.1:joined:3:2 => refuted
+    0Ro1 1Ro2: -~0.0:source 1.0<1.0:after-all:0 => refuted
+    0Ro1 0Wo2 1Ro2 1Ro1: -~0.0:source 0.1~1.0:source:0 1.1<1.1:after-all:1 => refuted
+    0Rx0: 0.0<0.0:after-all => open
+    0Ro1 1Ro1: -~0.0:source 1.0<1.0:after-all:0 => open
+    0Ro1 0Wo2 1Ro2 1Ro1: 0.1~1.0:source 1.1<1.1:after-all:0 => open
+    0Wx1 1Rx1 1Wx2 1Wy1 2Ry1 2Rx1: 0.0~1.0:source 1.2~2.0:source 0.0/2.1:hidden:1.0:0:1 2.1<2.1:after-all:2 => open
+    0Wx1 1Rx1 1Wx2 1Wy1 2Ry1 2Rx1: 0.0~1.0:source 1.2~2.0:source 0.0/2.1:hidden:1.1:1 2.1<2.1:after-all:2 => open
+    0Wx1 1Rx1 1Wx2 1Wy1 2Ry1 2Rx1: 0.0~1.0:source 1.2~2.0:source 0.0/2.1:hidden:1.1:0 2.1<2.1:after-all:2 => open
+    0Wy1 1Ry1 1Wx1 2Ry1 2Wx1 3Rx1 3Ry0: 0.0~1.0:source 0.0~2.0:source 0.0<3.0:after-all:0 3.1<3.1:after-all:2 => open
+    0Wx1 0Wy1 1Wx1 1Wz1 2Ry1 2Rz1 2Wx2 2Wy2 3Ry2 3Rx1: 0.1~2.0:source 1.1~2.1:source 2.3~3.0:source 3.1<2.2:before-all:0 3.1<3.1:joined:3:2 => open
+    0Wx1 0Wx2 1Wx1 2Rx2 2Rx1: 0.1~2.0:source 2.1<2.1:after-all:0 => open
+    0Wx1 0Wx2 1Rx2 1Rx1: 0.0~1.1:source 0.1<0.0:after-source:0 => open
     0Wx1 0Ry0 1Wy1 1Rx0: => open
-    0Wx1 0Ry0 1Wy1 1Rx0: 0.0<0.1:program 0.1<1.0:initial 1.0<1.1:program 1.1<0.0:initial 0.0<1.0:joined:0:1 0.0<1.1:joined:4:2 => open
-    0Wx1 0Ry0 1Wy1 1Rx0: 0.1<1.0:initial 1.0<1.1:program 1.1<0.0:initial 0.0<1.0:joined:0:1 0.0<1.1:joined:4:2 0.0<0.0:joined:5:3 => open
-    0Wx1 0Ry0 1Wy1 1Rx0: 0.0<0.1:program 0.1<1.0:initial 1.0<1.1:program 1.1<0.0:initial 0.0<1.1:joined:4:2 0.0<1.0:joined:0:1 0.0<0.0:joined:5:3 => open
-    0Wx1 0Ry0 1Wy1 1Rx0: 0.0<0.1:program 0.1<1.0:initial 1.0<1.1:program 1.1<0.0:initial 0.0<1.0:joined:0:6 0.0<1.1:joined:4:2 0.0<0.0:joined:5:3 => open
-    0Wx1 0Ry0 1Wy1 1Rx0: 0.0<0.0:joined:0:0 => open
-    0Wx1 1Wx1 2Rx1 2Wx2: 0.0<2.0:source 0.0<0.0:source => open
-    0Wx1: 0.0<0.0:program => open
-    0Rx0: 0.0<0.0:initial => open
-    0Wx1 0Ry0 1Wy1 1Rx0 /: 0.0<0.1:program 0.1<1.0:initial 1.0<1.1:program 1.1<0.0:initial 0.0<1.0:joined:0:1 0.0<1.1:joined:4:2 0.0<0.0:joined:5:3 => refuted
-    0Wx1 0Ry0 1Wy1 / 1Rx0: 0.0<0.1:program 0.1<1.0:initial 1.0<1.1:program 1.1<0.0:initial 0.0<1.0:joined:0:1 0.0<1.1:joined:4:2 0.0<0.0:joined:5:3 => open
+    0Wx1 0Ry0 1Wy1 1Rx0: 0.1<1.0:before-all 0.0<1.1:joined:0 => open
+    0Wx1 0Ry0 1Wy1 1Rx0: 0.1<1.0:before-all 0.0<1.1:joined 1.1<1.1:after-all:1 => open
+    0Wx1 0Ry0 1Wy1 1Rx0: 0.1<1.0:before-all 0.0<1.1:joined:1 1.1<1.1:after-all:1 => open
+    0Wx1 0Ry0 1Wy1 1Rx0: 0.1<1.0:before-all 0.0<1.1:joined:2 1.1<1.1:after-all:1 => open
+    0Wx1 0Ry0 1Wy1 1Rx0: 0.1<1.0:before-all 0.0<1.1:joined:0:0 1.1<1.1:after-all:1 => open
+    0Wx1 0Ry0 1Wy1 1Rx0: 0.1<1.0:before-all 0.0<1.1:joined:0 1.1<1.1:after-all:1:3 => open
+    0Wx1 0Ry0 1Wy1 1Rx0: 0.1<1.0:before-all 0.0<1.1:joined:0 1.1<1.1:after-all:1:4294967295 => open
+    0Wx1 0Ry0 1Wy1 1Rx0: 0.1<1.0:before-all 0.0<1.1:joined:0 1.2<1.1:after-all:1 => open
+    0Wx1 0Ry0 1Wy1 1Rx0: 0.1<1.0:before-all 0.0<1.1:joined:0 1.1<1.1:before-all:1 => open
+    0Wx1 0Ry0 1Wy1 1Rx0: 0.1<1.0:before-all 0.0<1.1:joined:0 255.4294967295<255.4294967295:after-all:1 => open
+    0Wx1 0Wy1 1Ry1 1Rx0: 0.1<1.0:before-all 0.0<1.1:joined:0 1.1<1.1:after-all:1 => open
+    0Wx1: 0.0<0.0:joined => open
+    0Wx1: 0.0<0.0:joined:0 => open
+    0Wx1: 0.0<0.0:after-all => open
+    0Rx0: 0.0<0.0:before-all => open
+    0Wx1 0Ry0 1Wy1 1Rx0 /: 0.1<1.0:before-all 0.0<1.1:joined:0 1.1<1.1:after-all:1 => refuted
+    0Wx1 0Ry0 1Wy1 / 1Rx0: 0.1<1.0:before-all 0.0<1.1:joined:0 1.1<1.1:after-all:1 => open
 ";
 
-/// Traces with a list of at most eight edges, and such with none.
+/// Traces with a derivation of at most eight lines, and such with none.
 const FOUND: &str = "
     store buffering: 0Wx1 0Ry0 1Wy1 1Rx0 => found
     a read of what nobody writes: 0Rx7 => found
@@ -43,6 +62,8 @@ const FOUND: &str = "
     two swaps of the first contents: 0Ux0>1 1Ux0>2 => found
     a write that is hidden: 0Wx1 0Wx2 0Wy1 1Ry1 1Rx1 => found
     two values of an open cell: 0Ro1 1Ro2 => found
+    two sources after one write: 0Wy1 1Ry1 1Wx1 2Ry1 2Wx1 3Rx1 3Ry0 => found
+    two sources before one write: 0Wx1 0Wy1 1Wx1 1Wz1 2Ry1 2Rz1 2Wx2 2Wy2 3Ry2 3Rx1 => found
     message passing: 0Wx1 0Wy1 1Ry1 1Rx1 => none
     nothing: => none
 ";
@@ -60,71 +81,139 @@ fn place_of(rt: &impl Abort, text: &str) -> Place {
     }
 }
 
-fn reason_of(rt: &impl Abort, text: &str) -> Reason {
-    match text {
-        "program" => Reason::Program,
-        "source" => Reason::Source,
-        "initial" => Reason::Initial,
-        _ => {
-            let (name, numbers) = text.split_once(':').expect(rt, "a reason");
-            let (i, j) = numbers.split_once(':').expect(rt, "two numbers");
-            reason_of_two(name, number(rt, i), number(rt, j))
-        }
+fn fact_of(rt: &impl Abort, text: &str) -> Fact {
+    if let Some((from, to)) = text.split_once('<') {
+        return Fact::Before {
+            from: place_of(rt, from),
+            to: place_of(rt, to),
+        };
+    }
+    if let Some((write, read)) = text.split_once('/') {
+        return Fact::Hidden {
+            write: place_of(rt, write),
+            read: place_of(rt, read),
+        };
+    }
+    let (write, read) = text.split_once('~').expect(rt, "a fact");
+    let read = place_of(rt, read);
+    match write {
+        "-" => Fact::SeesFirst { read },
+        _ => Fact::Sees {
+            write: place_of(rt, write),
+            read,
+        },
     }
 }
 
-fn reason_of_two(name: &str, i: u32, j: u32) -> Reason {
+fn rule_of(rt: &impl Abort, name: &str) -> Rule {
     match name {
-        "joined" => Reason::Joined {
-            first: i,
-            second: j,
-        },
-        "hidden" => Reason::Hidden {
-            first: i,
-            second: j,
-        },
-        "after-source" => Reason::AfterSource {
-            source: i,
-            before: j,
-        },
-        _ => Reason::BeforeNext {
-            source: i,
-            before: j,
+        "joined" => Rule::Joined,
+        "source" => Rule::Source,
+        "after-all" => Rule::AfterAll,
+        "before-all" => Rule::BeforeAll,
+        "after-source" => Rule::AfterSource,
+        _ => Rule::Hidden {
+            by: place_of(rt, name),
         },
     }
 }
 
-fn edge_of(rt: &impl Abort, text: &str) -> Edge {
-    let (places, reason) = text.split_once(':').expect(rt, "an edge");
-    let (from, to) = places.split_once('<').expect(rt, "two places");
-    Edge {
-        from: place_of(rt, from),
-        to: place_of(rt, to),
-        reason: reason_of(rt, reason),
+/// The rule of a line's words behind its fact, where a place stands for what hides, and the hints.
+fn rule_in<'a>(rt: &impl Abort, words: &'a str) -> (Rule, &'a str) {
+    let words = words.strip_prefix("hidden:").unwrap_or(words);
+    match words.split_once(':') {
+        Some((name, hints)) => (rule_of(rt, name), hints),
+        None => (rule_of(rt, words), ""),
     }
 }
 
-fn edges_of(rt: &impl Abort, alloc: Global, text: &str) -> Vec<Edge> {
-    let mut edges = Vec::new(alloc);
+fn add_line(rt: &impl Abort, derivation: &mut Derivation, text: &str) {
+    let (fact, words) = text.split_once(':').expect(rt, "a fact and a rule");
+    let (rule, hints) = rule_in(rt, words);
+    let first = derivation.hints.len();
+    for hint in hints.split(':').filter(|hint| !hint.is_empty()) {
+        derivation.hints.push(number(rt, hint)).expect(rt, "memory");
+    }
+    let count = derivation.hints.len().saturating_sub(first);
+    derivation
+        .lines
+        .push(Line {
+            fact: fact_of(rt, fact),
+            rule,
+            first: u32::try_from(first).expect(rt, "a number"),
+            count: u32::try_from(count).expect(rt, "a number"),
+        })
+        .expect(rt, "memory");
+}
+
+fn derivation_of(rt: &impl Abort, alloc: Global, text: &str) -> Derivation {
+    let mut derivation = Derivation {
+        lines: Vec::new(alloc),
+        hints: Vec::new(alloc),
+    };
     for word in text.split_whitespace() {
-        edges.push(edge_of(rt, word)).expect(rt, "memory");
+        add_line(rt, &mut derivation, word);
     }
-    edges
+    derivation
 }
 
 fn judge(rt: &impl Abort, alloc: Global, row: &str) {
     let (trace, list, verdict) = parts_of(rt, row);
     let sequences = sequences_in(rt, alloc, 4, trace);
     let lengths = lengths_in(rt, alloc, 4, trace);
-    let edges = edges_of(rt, alloc, list);
-    let is_refuted = orders_refute(&INITIALS, &sequences, &lengths, &edges);
+    let derivation = derivation_of(rt, alloc, list);
+    let is_refuted = orders_refute(&INITIALS, &sequences, &lengths, &derivation);
     assert!(rt; is_refuted == (verdict == "refuted"), "{row}");
 }
 
 #[test]
-fn lists_are_judged(rt: HostRuntime) {
+fn derivations_are_judged(rt: HostRuntime) {
     for row in LISTS.trim().lines() {
         judge(&rt, rt.alloc(), row);
+    }
+}
+
+/// Whether store buffering is refuted where the hints of the last line are these.
+fn is_refuted_by(rt: &impl Abort, alloc: Global, first: u32, count: u32, hints: &[u32]) -> bool {
+    let sequences = sequences_in(rt, alloc, 4, "0Wx1 0Ry0 1Wy1 1Rx0");
+    let mut derivation = derivation_of(rt, alloc, "0.1<1.0:before-all 0.0<1.1:joined:0");
+    let read = place_of(rt, "1.1");
+    derivation
+        .lines
+        .push(Line {
+            fact: Fact::Before {
+                from: read,
+                to: read,
+            },
+            rule: Rule::AfterAll,
+            first,
+            count,
+        })
+        .expect(rt, "memory");
+    for hint in hints {
+        derivation.hints.push(*hint).expect(rt, "memory");
+    }
+    orders_refute(&INITIALS, &sequences, &sequences.lengths(), &derivation)
+}
+
+#[test]
+fn hints_are_data(rt: HostRuntime) {
+    let ones = [1; 256];
+    let rows = [
+        (1, 1, 1, true),
+        (0, 2, 1, true),
+        (1, 255, 255, true),
+        (1, 256, 256, false),
+        (1, 0, 1, false),
+        (1, 2, 1, false),
+        (2, 1, 1, false),
+        (u32::MAX, 0, 1, false),
+        (u32::MAX, u32::MAX, 1, false),
+        (1, u32::MAX, 1, false),
+    ];
+    for (first, count, given, wanted) in rows {
+        let is_refuted = is_refuted_by(&rt, rt.alloc(), first, count, &ones[..given]);
+        assert!(rt; is_refuted == wanted, "{first} {count}");
     }
 }
 
@@ -132,48 +221,48 @@ fn lists_are_judged(rt: HostRuntime) {
 fn what_lies_beyond_refutes_nothing(rt: HostRuntime) {
     let alloc = rt.alloc();
     let sequences = sequences_in(&rt, alloc, 4, "0Wx1 0Ry0 1Wy1 1Rx0");
-    let beyond = edges_of(&rt, alloc, "0.1<0.1:source");
+    let beyond = derivation_of(&rt, alloc, "0.1<0.1:after-all");
     assert!(rt; !orders_refute(&INITIALS, &sequences, &Lengths::new(alloc, &[]), &beyond));
     assert!(rt; !orders_refute(&[], &sequences, &sequences.lengths(), &beyond));
 }
 
-/// How many edges the list has that was found for a trace of four processes, 0 where none was found. Each list is judged.
-fn edges_found(
+/// How many lines the derivation has that was found for a trace of four processes, 0 where none was found. Each is judged.
+fn lines_found(
     rt: &impl Abort,
     alloc: Global,
     initials: &[Option<u64>],
     sequences: &Sequences,
 ) -> usize {
     let lengths = sequences.lengths();
-    let Some(edges) = find_cycle(alloc, initials, sequences, &lengths) else {
+    let Some(derivation) = find_cycle(alloc, initials, sequences, &lengths) else {
         return 0;
     };
-    assert!(rt; orders_refute(initials, sequences, &lengths, &edges));
-    edges.len()
+    assert!(rt; orders_refute(initials, sequences, &lengths, &derivation));
+    derivation.lines.len()
 }
 
 #[test]
-fn short_lists_are_found(rt: HostRuntime) {
+fn short_derivations_are_found(rt: HostRuntime) {
     for row in FOUND.trim().lines() {
         let (_, trace, wanted) = parts_of(&rt, row);
         let sequences = sequences_in(&rt, rt.alloc(), 4, trace);
-        let edges = edges_found(&rt, rt.alloc(), &INITIALS, &sequences);
-        assert!(rt; edges <= 8 && (edges > 0) == (wanted == "found"), "{row}");
+        let lines = lines_found(&rt, rt.alloc(), &INITIALS, &sequences);
+        assert!(rt; lines <= 8 && (lines > 0) == (wanted == "found"), "{row}");
     }
 }
 
 #[test]
-fn consistent_rows_have_no_list(rt: HostRuntime) {
+fn consistent_rows_have_none(rt: HostRuntime) {
     for row in ROWS.trim().lines() {
         let (_, trace, wanted) = parts_of(&rt, row);
         let sequences = sequences_in(&rt, rt.alloc(), 4, trace);
-        let edges = edges_found(&rt, rt.alloc(), &INITIALS, &sequences);
-        assert!(rt; edges == 0 || wanted.contains(", inconsistent"), "{row}");
+        let lines = lines_found(&rt, rt.alloc(), &INITIALS, &sequences);
+        assert!(rt; lines == 0 || wanted.contains(", inconsistent"), "{row}");
     }
 }
 
 #[test]
 fn cells_that_are_not_there_have_none(rt: HostRuntime) {
     let sequences = sequences_of(&rt, rt.alloc(), 4, &[(0, read(9, 1))]);
-    assert!(rt; edges_found(&rt, rt.alloc(), &[], &sequences) == 0);
+    assert!(rt; lines_found(&rt, rt.alloc(), &[], &sequences) == 0);
 }

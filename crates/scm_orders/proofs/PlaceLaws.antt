@@ -1,15 +1,15 @@
 -- What is known of the operation at a place from what it read or wrote.
-use Rattle.std.proofs.Common.{ℕ, ◌≡◌, ◌<◌, true, false, List, length, Option, None, Some, IsSome, option_and_then, refl, sym, ap, ◌∙◌, subst, ⊎_elim}
+use Rattle.std.proofs.Common.{ℕ, ◌≡◌, ◌<◌, true, false, length, Option, None, Some, IsSome, option_and_then, refl, sym, ap, ap₂, ◌∙◌, subst, ⊎_elim}
 use Rattle.std.proofs.lemmas.Bool.{cases_eq}
 use Rattle.scm_sequences.specs.declared.op.Op.{Op}
 use Rattle.scm_sequences.specs.Ops.{cell_of, read_of, written_to}
-use Rattle.scm_sequences.specs.SequenceLaws.{process_within}
+use Rattle.scm_sequences.specs.Sequences.{operations}
+use Rattle.scm_sequences.specs.SequenceLaws.{process_within, operation_within}
 use Rattle.scm_sequences.specs.FixedLaws.{read_of-other}
 use Rattle.scm_sequences.specs.Traces.{Trace}
-use Rattle.scm_orders.specs.declared.edge.Place.{Place}
-use Rattle.scm_orders.specs.declared.edge.Edge.{Edge}
-use Rattle.scm_orders.specs.Places.{operation_at, read_at, written_at}
-use Rattle.scm_orders.specs.Following.{SeesOnly, IsOnlySource, ReadsFirst, IsBeforeWrites}
+use Rattle.scm_orders.specs.declared.place.Place.{Place}
+use Rattle.scm_orders.specs.declared.cut_trace.Reading.{Reading}
+use Rattle.scm_orders.specs.Places.{operation_at, read_at, written_at, IsReading}
 
 -- what `IsSome` says of nothing
 pub none_is : false ≡ true → ⊥
@@ -35,25 +35,26 @@ one_cell t place a b = go (operation_at t place) where
   go (Some op) reads_a reads_b = one_cell_of op a b reads_a reads_b
 
 -- and one value there
-one_reading : (t : Trace) (place : Place) (a b v u : ℕ) → read_at t place a ≡ Some v → read_at t place b ≡ Some u → (a ≡ b) × (v ≡ u)
-one_reading t place a b v u reads_a reads_b =
-    let cell : a ≡ b = one_cell t place a b (is_some_at (read_at t place a) v reads_a) (is_some_at (read_at t place b) u reads_b) in
-    let same : Some v ≡ Some u = sym reads_a ∙ ap (read_at t place) cell ∙ reads_b in
-    (cell, let e : v ≡ u = cc in e)
+pub one_reading : (t : Trace) (place : Place) (a b : Reading) → IsReading t place a → IsReading t place b → a ≡ b
+one_reading t place a b is_a is_b = ap (λ x. reading_of x a.cell a.value) at ∙ ap₂ (reading_of b.place) cell value where
+  reading_of : Place → ℕ → ℕ → Reading
+  reading_of place cell value = record { place = place; cell = cell; value = value }
 
-pub only_here : (t : Trace) (earlier : List Edge) (cell value : ℕ) (from to : Place) → read_at t to cell ≡ Some value → IsOnlySource t earlier from to → SeesOnly t earlier cell value from to
-only_here t earlier cell value from to reads only =
-    let same : (only.0 ≡ cell) × (only.1 ≡ value) = one_reading t to only.0 cell only.1 value only.2.reads reads in
-    subst (λ c. SeesOnly t earlier c value from to) same.0 (subst (λ v. SeesOnly t earlier only.0 v from to) same.1 only.2)
+  at : a.place ≡ b.place
+  at = is_a.at ∙ sym is_b.at
 
-pub first_here : (t : Trace) (earlier : List Edge) (cell value : ℕ) (from to : Place) → read_at t from cell ≡ Some value → IsBeforeWrites t earlier from to → ReadsFirst t earlier cell value from to
-first_here t earlier cell value from to reads only =
-    let same : (only.0 ≡ cell) × (only.1 ≡ value) = one_reading t from only.0 cell only.1 value only.2.reads reads in
-    subst (λ c. ReadsFirst t earlier c value from to) same.0 (subst (λ v. ReadsFirst t earlier only.0 v from to) same.1 only.2)
+  reads : read_at t b.place a.cell ≡ Some a.value
+  reads = subst (λ x. read_at t x a.cell ≡ Some a.value) at is_a.reads
+
+  cell : a.cell ≡ b.cell
+  cell = one_cell t b.place a.cell b.cell (is_some_at (read_at t b.place a.cell) a.value reads) (is_some_at (read_at t b.place b.cell) b.value is_b.reads)
+
+  value : a.value ≡ b.value
+  value = let same : Some a.value ≡ Some b.value = sym reads ∙ ap (read_at t b.place) cell ∙ is_b.reads in cc
 
 -- what writes is an operation of a process of the trace
-pub written_within : (t : Trace) (w : Place) (cell value : ℕ) → written_at t w cell ≡ Some value → w.process < length t.sequences
+pub written_within : (t : Trace) (w : Place) (cell value : ℕ) → written_at t w cell ≡ Some value → (w.process < length t.sequences) × (w.at < length (operations t.sequences w.process))
 written_within t w cell value wrote = go (operation_at t w) refl wrote where
-  go : (o : Option Op) → operation_at t w ≡ o → option_and_then (λ op. written_to op cell) o ≡ Some value → w.process < length t.sequences
+  go : (o : Option Op) → operation_at t w ≡ o → option_and_then (λ op. written_to op cell) o ≡ Some value → (w.process < length t.sequences) × (w.at < length (operations t.sequences w.process))
   go None e is = absurd (let f : ◌≡◌ {A = Option ℕ} None (Some value) = is in cc)
-  go (Some op) e is = process_within t.sequences w.process w.at op e
+  go (Some op) e is = (process_within t.sequences w.process w.at op e, operation_within t.sequences w.process w.at op e)

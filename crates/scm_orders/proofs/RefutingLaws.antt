@@ -1,36 +1,40 @@
--- A list of edges that follow holds in every schedule, so one that refutes leaves none.
-use Rattle.std.proofs.Common.{ℕ, zero, suc, ◌≡◌, ◌-◌, ◌<◌, ◌≤◌, min, List, length, take, Option, None, Some, IsSomeAnd, All, slice_get, slice_index_or, refl, sym, ap, subst, arith}
+-- Lines that follow say what is so in every schedule, so a derivation that refutes leaves none.
+use Rattle.std.proofs.Common.{ℕ, zero, suc, ◌≡◌, ◌-◌, ◌<◌, min, List, length, take, Option, None, Some, IsSomeAnd, All, slice_get, slice_index_or, refl, sym, ◌∙◌, subst, arith}
 use Rattle.std.proofs.lemmas.List.{length-take, get_or-take}
 use Rattle.std.proofs.lemmas.Option.{get_or_from_slice_get, slice_get_within, slice_get-get_or}
 use Rattle.scm_sequences.specs.Traces.{Trace}
 use Rattle.scm_sequences.specs.Fronts.{IsSchedule, IsConsistent}
-use Rattle.scm_orders.specs.declared.edge.Edge.{Edge}
-use Rattle.scm_orders.specs.Moments.{moment, Holds}
-use Rattle.scm_orders.specs.Refuting.{AllFollow, IsRefutingList}
-use Rattle.scm_orders.proofs.RuleLaws.{follows_holds}
+use Rattle.scm_orders.specs.declared.derivation.Line.{Line}
+use Rattle.scm_orders.specs.Moments.{Says}
+use Rattle.scm_orders.specs.Refuting.{hints_of, AllFollow, IsContradiction, Refutes}
+use Rattle.scm_orders.proofs.RuleLaws.{Holds, follows_holds, contradicts}
 
--- each of the first n edges holds
-hold_below : (t : Trace) (edges : List Edge) (s : List ℕ) → AllFollow t edges → IsSchedule t s → (n k : ℕ) (d : Edge) → k < n → k < length edges → Holds t s (slice_index_or edges k d)
-hold_below t edges s follow schedule zero k d below inside = absurd (omega arith)
-hold_below t edges s follow schedule (suc n) k d below inside =
-    follows_holds t s schedule (take k edges) (known (hold_below t edges s follow schedule n)) (slice_index_or edges k d) (follow.each k (slice_index_or edges k d) (slice_get-get_or edges k d inside)) where
-      known : ((j : ℕ) (e : Edge) → j < n → j < length edges → Holds t s (slice_index_or edges j e)) → All (Holds t s) (take k edges)
-      known holds j e h =
-          let short : length (take k edges) ≡ min k (length edges) = length-take k edges in
-          let in_k : j < k = omega arith in
-          subst (Holds t s) (sym (get_or-take k edges j e in_k)) (holds j e (omega arith) (omega arith))
+-- a line among the first k is among all
+of_taken : (lines : List Line) (k j : ℕ) (line : Line) → slice_get (take k lines) j ≡ Some line → (j < k) × (slice_get lines j ≡ Some line)
+of_taken lines k j line is =
+    let short : length (take k lines) ≡ min k (length lines) = length-take k lines in
+    let inside : j < length (take k lines) = slice_get_within (take k lines) j line is in
+    let in_k : j < k = omega arith in
+    let at : slice_index_or lines j line ≡ line = sym (get_or-take k lines j line in_k) ∙ get_or_from_slice_get (take k lines) j line line is in
+    (in_k, subst (λ x. slice_get lines j ≡ Some x) at (slice_get-get_or lines j line (omega arith)))
 
-pub all_hold : (t : Trace) (edges : List Edge) (s : List ℕ) → AllFollow t edges → IsSchedule t s → All (Holds t s) edges
-all_hold t edges s follow schedule k d inside = hold_below t edges s follow schedule (length edges) k d inside inside
+-- each of the first n lines holds
+holds_below : (t : Trace) (lines : List Line) (hints s : List ℕ) → AllFollow t lines hints → IsSchedule t s → (n k : ℕ) (line : Line) → k < n → slice_get lines k ≡ Some line → Holds t s line.fact
+holds_below t lines hints s follow schedule zero k line below is = absurd (omega arith)
+holds_below t lines hints s follow schedule (suc n) k line below is =
+    follows_holds t s schedule (take k lines) (hints_of hints line) (known (holds_below t lines hints s follow schedule n)) line (follow.each k line is).follows where
+      known : ((j : ℕ) (l : Line) → j < n → slice_get lines j ≡ Some l → Holds t s l.fact) → (j : ℕ) (l : Line) → slice_get (take k lines) j ≡ Some l → Holds t s l.fact
+      known holds j l at = let both : (j < k) × (slice_get lines j ≡ Some l) = of_taken lines k j l at in holds j l (omega (arith, both.0)) both.1
 
-pub none_left : (t : Trace) (edges : List Edge) → IsRefutingList t edges → IsConsistent t → ⊥
-none_left t edges refuting consistent = go (slice_get edges (length edges - 1)) refl refuting.ends where
-  go : (o : Option Edge) → slice_get edges (length edges - 1) ≡ o → IsSomeAnd o (λ edge. edge.from ≡ edge.to) → ⊥
+line_holds : (t : Trace) (lines : List Line) (hints s : List ℕ) → AllFollow t lines hints → IsSchedule t s → (k : ℕ) (line : Line) → slice_get lines k ≡ Some line → Holds t s line.fact
+line_holds t lines hints s follow schedule k line is = holds_below t lines hints s follow schedule (suc k) k line (omega arith) is
+
+pub all_hold : (t : Trace) (lines : List Line) (hints s : List ℕ) → AllFollow t lines hints → IsSchedule t s → All (λ line. Says t s line.fact) lines
+all_hold t lines hints s follow schedule k d inside = (line_holds t lines hints s follow schedule k (slice_index_or lines k d) (slice_get-get_or lines k d inside)).says
+
+pub none_left : (t : Trace) (lines : List Line) (hints : List ℕ) → Refutes t lines hints → IsConsistent t → ⊥
+none_left t lines hints refutes consistent = go (slice_get lines (length lines - 1)) refl refutes.ends where
+  go : (o : Option Line) → slice_get lines (length lines - 1) ≡ o → IsSomeAnd o (λ line. IsContradiction line.fact) → ⊥
   go None is ends = absurd ends
-  go (Some edge) is ends =
-      let s : List ℕ = consistent.schedule in
-      let holds : Holds t s edge = subst (Holds t s) (get_or_from_slice_get edges (length edges - 1) edge edge is)
-      (all_hold t edges s refuting.follow consistent.is_schedule (length edges - 1) edge (slice_get_within edges (length edges - 1) edge is)) in
-      let less : moment s edge.from < moment s edge.to = holds.before in
-      let same : moment s edge.from ≡ moment s edge.to = ap (moment s) ends in
-      omega arith
+  go (Some line) is ends = contradicts t consistent.schedule consistent.is_schedule line.fact
+      (line_holds t lines hints consistent.schedule refutes.follow consistent.is_schedule (length lines - 1) line is) ends

@@ -1,9 +1,7 @@
--- Each reason holds: in a schedule in which the earlier edges hold, so does an edge that follows from them.
-use Rattle.std.proofs.Common.{ℕ, ◌≡◌, ◌≢◌, ◌+◌, ◌<◌, ◌≤◌, ◌⊎◌, List, length, get_or, take, Option, None, Some, IsSome, IsSomeAnd, All, option_and_then, slice_get, slice_index, slice_index_or, refl, sym, ap, ◌∙◌, subst, ⊎_elim, inl, inr, arith}
-use Rattle.std.specs.List.{Any}
+-- Each rule holds: in a schedule in which the facts of the hints are so, so is a fact that follows from them.
+use Rattle.std.proofs.Common.{ℕ, ◌≡◌, ◌≢◌, ◌<◌, ◌≤◌, ◌⊎◌, List, [], ◌∷◌, length, Option, None, Some, IsSome, IsSomeAnd, option_and_then, slice_get, slice_index, refl, sym, ap, ap₂, ◌∙◌, subst, ⊎_elim, inl, inr, arith}
 use Rattle.std.specs.Option.{option_or, option_map}
 use Rattle.std.proofs.lemmas.Bool.{cases_lt}
-use Rattle.std.proofs.lemmas.Option.{get_or_from_slice_get, slice_get_within, slice_get-get_or}
 use Rattle.scm_sequences.specs.declared.op.Op.{Op}
 use Rattle.scm_sequences.specs.Ops.{read_of, written_to}
 use Rattle.scm_sequences.specs.Sequences.{operations, lengths_of}
@@ -11,45 +9,29 @@ use Rattle.scm_sequences.specs.SequenceLaws.{operation_within, process_within, s
 use Rattle.scm_sequences.specs.Traces.{Trace, initial_of}
 use Rattle.scm_sequences.specs.Fronts.{count_in, counts_of, first_read, IsSchedule}
 use Rattle.scm_sequences.specs.FrontLaws.{slice_index-counts_of}
-use Rattle.scm_orders.specs.declared.edge.Place.{Place}
-use Rattle.scm_orders.specs.declared.edge.Edge.{Edge}
-use Rattle.scm_orders.specs.declared.edge.Reason.{Reason}
-use Rattle.scm_orders.specs.declared.edge.Reason.TheVariants.{Program, Source, Initial, Joined, Hidden, AfterSource, BeforeNext}
-use Rattle.scm_orders.specs.Places.{operation_at, read_at, written_at, ReadsOther, WritesWhatIsRead}
-use Rattle.scm_orders.specs.Moments.{moment, IsSeen, SeesFirst, SaysMore, Holds}
-use Rattle.scm_orders.specs.Following.{IsSource, IsInitial, IsHidden, Leads, RulesOut, RulesOutFirst, NoOtherWrite, NoFirst, SeesOnly, ReadsFirst, OfTwo, AreJoined, IsHiding, IsBeforeRead, IsOverwritten, FollowsBy, Follows}
+use Rattle.scm_orders.specs.declared.place.Place.{Place}
+use Rattle.scm_orders.specs.declared.cut_trace.Reading.{Reading}
+use Rattle.scm_orders.specs.declared.derivation.Fact.{Fact}
+use Rattle.scm_orders.specs.declared.derivation.Fact.TheVariants.{Before, Sees, SeesFirst, Hidden}
+use Rattle.scm_orders.specs.declared.derivation.Line.{Line}
+use Rattle.scm_orders.specs.declared.derivation.Rule.{Rule}
+use Rattle.scm_orders.specs.declared.derivation.Rule.TheVariants.{Joined, Hidden as HiddenBy, Source, AfterAll, BeforeAll, AfterSource}
+use Rattle.scm_orders.specs.declared.candidates.Left.{Left}
+use Rattle.scm_orders.specs.declared.candidates.Left.TheVariants.{Write, First, After, Before as Until}
+use Rattle.scm_orders.specs.Places.{IsUpTo, IsEarlier, operation_at, read_at, written_at, ReadsOther, WritesWhatIsRead}
+use Rattle.scm_orders.specs.Facts.{order_of, Shows, SomeHint, IsBefore, Leads, IsJoined}
+use Rattle.scm_orders.specs.Moments.{moment, IsLastBefore, HasNoneBefore, HasWriteBetween, ReadsCell, Says}
+use Rattle.scm_orders.specs.Candidates.{Overwrites, Denies, RulesOut, SaysOtherFirst, RulesOutFirst, HasFirst, Has, HasBy, LeavesOnly, Leaves}
+use Rattle.scm_orders.specs.Following.{IsHidden, IsBeforeAll, HasReader, IsOrdered, IsHiddenBy, FollowsBy, IsOf, Follows}
+use Rattle.scm_orders.specs.Refuting.{IsContradiction}
 use Rattle.scm_orders.proofs.PlaceLaws.{none_is, is_some_at, some_first, one_cell}
 use Rattle.scm_orders.proofs.MomentLaws.{place_of, IsIn, moment-injective, moment-rises}
 use Rattle.scm_orders.proofs.SeeingLaws.{SeesWrite, SeesNone, sees, first_value}
 
--- ---- what the reasons tell beside the order
-
-source_says : (t : Trace) (s : List ℕ) (from to : Place) (reason : Reason) → IsSource reason → SaysMore t s from to reason → (cell : ℕ) → IsSome (read_at t to cell) → IsSeen t s cell from to
-source_says t s from to Source is more = more
-source_says t s from to Program is more = absurd is
-source_says t s from to Initial is more = absurd is
-source_says t s from to (Joined j k) is more = absurd is
-source_says t s from to (Hidden j k) is more = absurd is
-source_says t s from to (AfterSource j k) is more = absurd is
-source_says t s from to (BeforeNext j k) is more = absurd is
-
-initial_says : (t : Trace) (s : List ℕ) (from to : Place) (reason : Reason) → IsInitial reason → SaysMore t s from to reason → (cell : ℕ) → IsSome (read_at t from cell) → SeesFirst t s cell from
-initial_says t s from to Initial is more = more
-initial_says t s from to Program is more = absurd is
-initial_says t s from to Source is more = absurd is
-initial_says t s from to (Joined j k) is more = absurd is
-initial_says t s from to (Hidden j k) is more = absurd is
-initial_says t s from to (AfterSource j k) is more = absurd is
-initial_says t s from to (BeforeNext j k) is more = absurd is
-
-hidden_says : (t : Trace) (s : List ℕ) (from to : Place) (reason : Reason) → IsHidden reason → SaysMore t s from to reason → (cell : ℕ) → IsSome (read_at t to cell) → IsSeen t s cell from to → ⊥
-hidden_says t s from to (Hidden j k) is more = more
-hidden_says t s from to Program is more = absurd is
-hidden_says t s from to Source is more = absurd is
-hidden_says t s from to Initial is more = absurd is
-hidden_says t s from to (Joined j k) is more = absurd is
-hidden_says t s from to (AfterSource j k) is more = absurd is
-hidden_says t s from to (BeforeNext j k) is more = absurd is
+-- a fact is one of operations of the trace, and what it says is so
+pub record Holds (t : Trace) (s : List ℕ) (fact : Fact) : Type 0 where
+  pub of : IsOf t fact
+  pub says : Says t s fact
 
 -- ---- in a schedule
 
@@ -75,13 +57,13 @@ module _ (t : Trace) (s : List ℕ) (schedule : IsSchedule t s) where
   strictly : (x y : Place) → IsIn s x → IsIn s y → x ≢ y → moment s x ≤ moment s y → moment s x < moment s y
   strictly x y in_x in_y ne below = ⊎_elim (λ less. less) (λ above. absurd (ne (moment-injective s x y in_x in_y (omega arith)))) (cases_lt (moment s x) (moment s y))
 
-  SeesNone-from_first : (cell : ℕ) (read : Place) → SeesFirst t s cell read → SeesNone t s cell read
+  SeesNone-from_first : (cell : ℕ) (read : Place) → HasNoneBefore t s cell read → SeesNone t s cell read
   SeesNone-from_first cell read first = record { none = λ x _ writes. first.none x writes }
 
   -- a write of its value is what a read sees, or it sees first contents
-  seen_or_first : (cell value : ℕ) (read : Place) → read_at t read cell ≡ Some value → ((w : Place) × (written_at t w cell ≡ Some value) × IsSeen t s cell w read) ⊎ SeesFirst t s cell read
+  seen_or_first : (cell value : ℕ) (read : Place) → read_at t read cell ≡ Some value → ((w : Place) × (written_at t w cell ≡ Some value) × IsLastBefore t s cell w read) ⊎ HasNoneBefore t s cell read
   seen_or_first cell value read reads = ⊎_elim seen first (sees t s cell value read schedule.legal (reads_in read cell (is_some_at (read_at t read cell) value reads)) reads) where
-    seen : SeesWrite t s cell value read → ((w : Place) × (written_at t w cell ≡ Some value) × IsSeen t s cell w read) ⊎ SeesFirst t s cell read
+    seen : SeesWrite t s cell value read → ((w : Place) × (written_at t w cell ≡ Some value) × IsLastBefore t s cell w read) ⊎ HasNoneBefore t s cell read
     seen found = inl (
       found.write,
       found.wrote,
@@ -92,26 +74,26 @@ module _ (t : Trace) (s : List ℕ) (schedule : IsSchedule t s) where
       },
     )
 
-    first : SeesNone t s cell read → ((w : Place) × (written_at t w cell ≡ Some value) × IsSeen t s cell w read) ⊎ SeesFirst t s cell read
+    first : SeesNone t s cell read → ((w : Place) × (written_at t w cell ≡ Some value) × IsLastBefore t s cell w read) ⊎ HasNoneBefore t s cell read
     first found = inr (record { none = λ w writes. found.none w (writes_in w cell writes) writes })
 
-  first_read_is : (cell value : ℕ) (read : Place) → read_at t read cell ≡ Some value → SeesFirst t s cell read → option_or (initial_of t cell) (first_read t s cell) ≡ Some value
+  first_read_is : (cell value : ℕ) (read : Place) → read_at t read cell ≡ Some value → HasNoneBefore t s cell read → option_or (initial_of t cell) (first_read t s cell) ≡ Some value
   first_read_is cell value read reads first =
       first_value t s cell value read schedule.legal (reads_in read cell (is_some_at (read_at t read cell) value reads)) reads (SeesNone-from_first cell read first)
 
   -- what sees first contents reads one value
-  same_first : (cell a b : ℕ) (x y : Place) → read_at t x cell ≡ Some a → read_at t y cell ≡ Some b → SeesFirst t s cell x → SeesFirst t s cell y → a ≡ b
+  same_first : (cell a b : ℕ) (x y : Place) → read_at t x cell ≡ Some a → read_at t y cell ≡ Some b → HasNoneBefore t s cell x → HasNoneBefore t s cell y → a ≡ b
   same_first cell a b x y reads_x reads_y first_x first_y =
       let same : Some a ≡ Some b = sym (first_read_is cell a x reads_x first_x) ∙ first_read_is cell b y reads_y first_y in
       let e : a ≡ b = cc in e
 
   -- and that is what is known of the cell
-  is_first : (cell value first : ℕ) (read : Place) → read_at t read cell ≡ Some value → SeesFirst t s cell read → initial_of t cell ≡ Some first → first ≡ value
+  is_first : (cell value first : ℕ) (read : Place) → read_at t read cell ≡ Some value → HasNoneBefore t s cell read → initial_of t cell ≡ Some first → first ≡ value
   is_first cell value first read reads sees_first is =
       let same : Some first ≡ Some value = sym (ap (λ o. option_or o (first_read t s cell)) is) ∙ first_read_is cell value read reads sees_first in
       let e : first ≡ value = cc in e
 
-  other_first : (cell value : ℕ) (x y : Place) → ReadsOther t x cell value → read_at t y cell ≡ Some value → SeesFirst t s cell x → SeesFirst t s cell y → ⊥
+  other_first : (cell value : ℕ) (x y : Place) → ReadsOther t x cell value → read_at t y cell ≡ Some value → HasNoneBefore t s cell x → HasNoneBefore t s cell y → ⊥
   other_first cell value x y other reads first_x first_y = go (read_at t x cell) refl other where
     go : (o : Option ℕ) → read_at t x cell ≡ o → IsSomeAnd o (λ v. v ≢ value) → ⊥
     go None e differs = absurd differs
@@ -123,155 +105,226 @@ module _ (t : Trace) (s : List ℕ) (schedule : IsSchedule t s) where
     go None differs = absurd differs
     go (Some v) differs = refl
 
-  -- ---- from earlier edges
+  -- ---- by the order of processes
 
-  module _ (earlier : List Edge) (known : All (Holds t s) earlier) where
-    -- an edge that rules a write out is right
-    ruled_out : (cell : ℕ) (w read : Place) → IsSome (read_at t read cell) → Any (λ edge. RulesOut edge w read) earlier → IsSeen t s cell w read → ⊥
-    ruled_out cell w read reads some seen = go some.1 (subst (Holds t s) some.3 (known some.0 some.1 some.2)) some.4 where
-      go : (edge : Edge) → Holds t s edge → RulesOut edge w read → ⊥
-      go edge holds out = ⊎_elim before hidden out where
-        before : Leads edge read w → ⊥
-        before leads =
-            let less : moment s read < moment s w = subst (λ x. moment s x < moment s w) leads.0 (subst (λ x. moment s edge.from < moment s x) leads.1 holds.before) in
-            let more : moment s w < moment s read = seen.before in
-            omega arith
+  rises : (a b : Place) → IsIn s b → IsEarlier a b → moment s a < moment s b
+  rises a b inside is = subst (λ p. moment s (place_of p a.at) < moment s b) (sym is.process) (moment-rises s b.process a.at b.at is.order inside)
 
-        hidden : IsHidden edge.reason × Leads edge w read → ⊥
-        hidden both =
-            hidden_says t s edge.from edge.to edge.reason both.0 holds.more cell (subst (λ x. IsSome (read_at t x cell)) (sym both.1.1) reads)
-            (subst (λ x. IsSeen t s cell x edge.to) (sym both.1.0) (subst (IsSeen t s cell w) (sym both.1.1) seen))
+  up_to : (a b : Place) → IsIn s b → IsUpTo a b → moment s a ≤ moment s b
+  up_to a b inside is = ⊎_elim
+      (λ less. let rise : moment s a < moment s b = rises a b inside (record { process = is.process; order = less }) in omega arith)
+      (λ past. let at : a.at ≡ b.at = omega (arith, is.order, past) in let same : moment s a ≡ moment s b = ap (moment s) (ap₂ place_of is.process at) in omega arith)
+      (cases_lt a.at b.at)
 
-    -- what the read sees is the one write that is left
-    only_write : (cell value : ℕ) (but read w : Place) → read_at t read cell ≡ Some value → NoOtherWrite t earlier cell value but read → written_at t w cell ≡ Some value → IsSeen t s cell w read → w ≡ but
-    only_write cell value but read w reads none wrote seen = ⊎_elim (λ same. same) (λ rest. absurd (⊎_elim itself (λ out. ruled_out cell w read (is_some_at (read_at t read cell) value reads) out seen) rest)) (none w wrote) where
-      itself : w ≡ read → ⊥
-      itself same =
-          let less : moment s w < moment s read = seen.before in
-          let at : moment s w ≡ moment s read = ap (moment s) same in
-          omega arith
+  -- ---- what one fact shows
 
-    no_first : (cell value : ℕ) (read : Place) → read_at t read cell ≡ Some value → NoFirst t earlier cell value read → SeesFirst t s cell read → ⊥
-    no_first cell value read reads none first = ⊎_elim (differs (initial_of t cell) refl) (λ some. go some.1 (subst (Holds t s) some.3 (known some.0 some.1 some.2)) some.4) none where
-      differs : (o : Option ℕ) → initial_of t cell ≡ o → IsSomeAnd o (λ v. v ≢ value) → ⊥
-      differs None e other = absurd other
-      differs (Some v) e other = other (is_first cell value v read reads first e)
+  by_order : (fact : Fact) (P : Place × Place → Type 0) (Q : Type 0) → Holds t s fact → ((a b : Place) → IsIn s a → IsIn s b → moment s a < moment s b → P (a, b) → Q) → IsSomeAnd (order_of fact) P → Q
+  by_order (Before a b) P Q holds use' is = use' a b (is_in a holds.of.one) (is_in b holds.of.other) holds.says is
+  by_order (Sees w r) P Q holds use' is = use' w r (is_in w holds.of.one) (is_in r holds.of.other) holds.says.2.before is
+  by_order (SeesFirst r) P Q holds use' is = absurd is
+  by_order (Hidden w r) P Q holds use' is = use' w r (is_in w holds.of.one) (is_in r holds.of.other) (omega (arith, holds.says.2.after, holds.says.2.before)) is
 
-      go : (edge : Edge) → Holds t s edge → RulesOutFirst t cell value edge read → ⊥
-      go edge holds out = ⊎_elim overwritten taken out.1 where
-        overwritten : IsSome (written_at t edge.from cell) → ⊥
-        overwritten writes =
-            let less : moment s edge.from < moment s read = subst (λ x. moment s edge.from < moment s x) out.0 holds.before in
-            let more : moment s read ≤ moment s edge.from = first.none edge.from writes in
-            omega arith
+  shows : (fact : Fact) (x y : Place) → IsIn s y → Holds t s fact → Shows fact x y → moment s x < moment s y
+  shows fact x y in_y holds = by_order fact (λ order. IsUpTo x order.0 × IsUpTo order.1 y) (moment s x < moment s y) holds
+      (λ a b in_a in_b less both. omega (arith, up_to x a in_a both.0, less, up_to b y in_y both.1))
 
-        taken : IsInitial edge.reason × ReadsOther t edge.from cell value → ⊥
-        taken both =
-            other_first cell value edge.from read both.1 reads
-            (initial_says t s edge.from edge.to edge.reason both.0 holds.more cell (reads_some cell value edge.from both.1)) first
+  -- an operation reads one cell
+  of_cell : (P : ℕ → Type 0) (read : Place) (cell : ℕ) → IsSome (read_at t read cell) → ReadsCell t read P → P cell
+  of_cell P read cell reads is = subst P (one_cell t read is.0 cell is.1 reads) is.2
+
+  writes_cell : (write read : Place) (cell : ℕ) → IsSome (read_at t read cell) → WritesWhatIsRead t write read → IsSome (written_at t write cell)
+  writes_cell write read cell reads is = subst (λ c. IsSome (written_at t write c)) (one_cell t read is.cell cell is.reads reads) is.writes
+
+  -- what a fact rules out isn't seen
+  overwritten : (fact : Fact) (read : Reading) (w : Place) → IsIn s read.place → Holds t s fact → Overwrites t fact read w → IsLastBefore t s read.cell w read.place → ⊥
+  overwritten fact read w in_read holds out seen = by_order fact (λ order. IsEarlier w order.0 × IsSome (written_at t order.0 read.cell) × IsUpTo order.1 read.place) ⊥ holds
+      (λ a b in_a in_b less both.
+      let sooner : moment s w < moment s a = rises w a in_a both.0 in
+      let later : moment s b ≤ moment s read.place = up_to b read.place in_read both.2 in
+      let last : moment s a ≤ moment s w = seen.last a both.1 (omega arith) in
+      omega arith)
+      out
+
+  denied : (fact : Fact) (read : Reading) (w : Place) → IsSome (read_at t read.place read.cell) → Holds t s fact → Denies fact read.place w → IsLastBefore t s read.cell w read.place → ⊥
+  denied (Before a b) read w reads holds out seen = absurd out
+  denied (Sees w' r) read w reads holds out seen =
+      let other : IsLastBefore t s read.cell w' read.place = of_cell (λ cell. IsLastBefore t s cell w' read.place) read.place read.cell reads
+      (subst (λ r. ReadsCell t r (λ cell. IsLastBefore t s cell w' r)) out.0 holds.says) in
+      let one : moment s w' ≤ moment s w = seen.last w' other.writes other.before in
+      let two : moment s w ≤ moment s w' = other.last w seen.writes seen.before in
+      out.1 (moment-injective s w' w (writes_in w' read.cell other.writes) (writes_in w read.cell seen.writes) (omega arith))
+  denied (SeesFirst r) read w reads holds out seen =
+      let none : HasNoneBefore t s read.cell read.place = of_cell (λ cell. HasNoneBefore t s cell read.place) read.place read.cell reads
+      (subst (λ r. ReadsCell t r (λ cell. HasNoneBefore t s cell r)) out holds.says) in
+      omega (arith, none.none w seen.writes, seen.before)
+  denied (Hidden w' r) read w reads holds out seen =
+      let between : HasWriteBetween t s read.cell w' read.place = of_cell (λ cell. HasWriteBetween t s cell w' read.place) read.place read.cell reads
+      (subst (λ r. ReadsCell t r (λ cell. HasWriteBetween t s cell w' r)) out.0 holds.says) in
+      let up : moment s w ≤ moment s w' = up_to w w' (is_in w' holds.of.one) out.1 in
+      let last : moment s between.write ≤ moment s w = seen.last between.write between.writes between.before in
+      omega (arith, up, last, between.after)
+
+  ruled_out : (fact : Fact) (read : Reading) (w : Place) → IsSome (read_at t read.place read.cell) → Holds t s fact → RulesOut t fact read w → IsLastBefore t s read.cell w read.place → ⊥
+  ruled_out fact read w reads holds out seen = ⊎_elim
+      (λ shown. omega (arith, shows fact read.place w (writes_in w read.cell seen.writes) holds shown, seen.before))
+      (⊎_elim (λ over. overwritten fact read w (reads_in read.place read.cell reads) holds over seen) (λ not'. denied fact read w reads holds not' seen))
+      out
+
+  other_said : (fact : Fact) (read : Reading) → read_at t read.place read.cell ≡ Some read.value → Holds t s fact → SaysOtherFirst t fact read → HasNoneBefore t s read.cell read.place → ⊥
+  other_said (Before a b) read reads holds out none = absurd out
+  other_said (Sees w r) read reads holds out none = absurd out
+  other_said (SeesFirst r) read reads holds out none =
+      other_first read.cell read.value r read.place out reads (of_cell (λ cell. HasNoneBefore t s cell r) r read.cell (reads_some read.cell read.value r out) holds.says) none
+  other_said (Hidden w r) read reads holds out none = absurd out
+
+  first_ruled_out : (fact : Fact) (read : Reading) → read_at t read.place read.cell ≡ Some read.value → Holds t s fact → RulesOutFirst t fact read → HasNoneBefore t s read.cell read.place → ⊥
+  first_ruled_out fact read reads holds out none = ⊎_elim
+      (by_order fact (λ order. IsSome (written_at t order.0 read.cell) × IsUpTo order.1 read.place) ⊥ holds
+      (λ a b in_a in_b less both. omega (arith, none.none a both.0, less, up_to b read.place (reads_in read.place read.cell (is_some_at (read_at t read.place read.cell) read.value reads)) both.1)))
+      (λ other. other_said fact read reads holds other none)
+      out
+
+  -- no operation stands before itself
+  pub contradicts : (fact : Fact) → Holds t s fact → IsContradiction fact → ⊥
+  contradicts fact holds = by_order fact (λ order. IsUpTo order.1 order.0) ⊥ holds (λ a b in_a in_b less back. omega (arith, less, up_to b a in_a back))
+
+  -- ---- from hints
+
+  module _ (earlier : List Line) (hints : List ℕ) (known : (k : ℕ) (line : Line) → slice_get earlier k ≡ Some line → Holds t s line.fact) where
+    by_hint : (P : Fact → Type 0) (Q : Type 0) → ((fact : Fact) → Holds t s fact → P fact → Q) → SomeHint earlier hints P → Q
+    by_hint P Q use' some = go (slice_get earlier some.1) refl some.4 where
+      go : (o : Option Line) → slice_get earlier some.1 ≡ o → IsSomeAnd (option_map (λ line. line.fact) o) P → Q
+      go None e is = absurd is
+      go (Some line) e is = use' line.fact (known some.1 line e) is
+
+    before : (x y : Place) → IsIn s y → IsBefore earlier hints x y → moment s x < moment s y
+    before x y in_y = ⊎_elim (rises x y in_y) (by_hint (λ fact. Shows fact x y) (moment s x < moment s y) (λ fact holds is. shows fact x y in_y holds is))
+
+    led : (hint : ℕ) (rest : List ℕ) (x y : Place) → IsIn s y → ((z : Place) → Leads earlier rest z y → moment s z ≤ moment s y) → Leads earlier (hint ∷ rest) x y → moment s x < moment s y
+    led hint rest x y in_y then' is = go (slice_get earlier hint) refl is where
+      go : (o : Option Line) → slice_get earlier hint ≡ o → IsSomeAnd (option_and_then order_of (option_map (λ line. line.fact) o)) (λ order. IsUpTo x order.0 × Leads earlier rest order.1 y) → moment s x < moment s y
+      go None e is = absurd is
+      go (Some line) e is = by_order line.fact (λ order. IsUpTo x order.0 × Leads earlier rest order.1 y) (moment s x < moment s y) (known hint line e)
+          (λ a b in_a in_b less both. omega (arith, up_to x a in_a both.0, less, then' b both.1)) is
+
+    leads : (rest : List ℕ) (x y : Place) → IsIn s y → Leads earlier rest x y → moment s x ≤ moment s y
+    leads [] x y in_y is = up_to x y in_y is
+    leads (hint ∷ rest) x y in_y is = let less : moment s x < moment s y = led hint rest x y in_y (λ z. leads rest z y in_y) is in omega arith
+
+    joined : (numbers : List ℕ) (x y : Place) → IsIn s y → IsJoined earlier numbers x y → moment s x < moment s y
+    joined [] x y in_y is = rises x y in_y is
+    joined (hint ∷ rest) x y in_y is = led hint rest x y in_y (λ z. leads rest z y in_y) is
+
+    -- ---- what is left for a read to see
+
+    abbrev IsLeft : Left → Place → Type 0
+    IsLeft left w = Has left w ⊎ ((fact : Fact) × Holds t s fact × HasBy left fact w)
+
+    write_left : (left : Left) (read : Reading) → IsSome (read_at t read.place read.cell) → LeavesOnly t earlier hints left read
+        → (w : Place) → written_at t w read.cell ≡ Some read.value → IsLastBefore t s read.cell w read.place → IsLeft left w
+    write_left left read reads only w wrote seen = ⊎_elim
+        (λ behind. absurd (omega (arith, up_to read.place w (writes_in w read.cell seen.writes) behind, seen.before)))
+        (⊎_elim inl (by_hint (λ fact. RulesOut t fact read w ⊎ HasBy left fact w) (IsLeft left w)
+        (λ fact holds is. ⊎_elim (λ out. absurd (ruled_out fact read w reads holds out seen)) (λ by. inr (fact, holds, by)) is)))
+        (only.writes w wrote)
+
+    first_left : (left : Left) (read : Reading) → read_at t read.place read.cell ≡ Some read.value → LeavesOnly t earlier hints left read → HasNoneBefore t s read.cell read.place → HasFirst left
+    first_left left read reads only none = ⊎_elim (λ has. has)
+        (⊎_elim (λ other. absurd (differs (initial_of t read.cell) refl other))
+        (by_hint (λ fact. RulesOutFirst t fact read) (HasFirst left) (λ fact holds out. absurd (first_ruled_out fact read reads holds out none))))
+        only.first where
+          differs : (o : Option ℕ) → initial_of t read.cell ≡ o → IsSomeAnd o (λ v. v ≢ read.value) → ⊥
+          differs None e other = absurd other
+          differs (Some v) e other = other (is_first read.cell read.value v read.place reads none e)
+
+    -- where nothing but this is left, the read sees a write that is left, or first contents that are
+    what_is_left : (place : Place) (left : Left) (Q : Place → Type 0)
+        → ((read : Reading) (w : Place) → IsSome (read_at t read.place read.cell) → IsLeft left w → IsLastBefore t s read.cell w read.place → Q read.place)
+        → ((read : Reading) → IsSome (read_at t read.place read.cell) → HasFirst left → HasNoneBefore t s read.cell read.place → Q read.place)
+        → Leaves t earlier hints place left → Q place
+    what_is_left place left Q write first is = subst Q is.1.at (⊎_elim
+        (λ found. write is.0 found.0 reads (write_left left is.0 reads is.2 found.0 found.1 found.2) found.2)
+        (λ none. first is.0 reads (first_left left is.0 is.1.reads is.2 none) none)
+        (seen_or_first is.0.cell is.0.value is.0.place is.1.reads)) where
+          reads : IsSome (read_at t is.0.place is.0.cell)
+          reads = is_some_at (read_at t is.0.place is.0.cell) is.0.value is.1.reads
 
     -- ---- the rules
 
-    source_rule : (from to : Place) (cell value : ℕ) → SeesOnly t earlier cell value from to → (moment s from < moment s to) × SaysMore t s from to Source
-    source_rule from to cell value only = ⊎_elim seen (λ first. absurd (no_first cell value to only.reads only.first first)) (seen_or_first cell value to only.reads) where
-      seen : (w : Place) × (written_at t w cell ≡ Some value) × IsSeen t s cell w to → (moment s from < moment s to) × SaysMore t s from to Source
-      seen found =
-          let is : IsSeen t s cell from to = subst (λ x. IsSeen t s cell x to) (only_write cell value from to found.0 only.reads only.writes found.1 found.2) found.2 in
-          (is.before, λ a reads. subst (λ c. IsSeen t s c from to) (one_cell t to cell a (is_some_at (read_at t to cell) value only.reads) reads) is)
+    source_rule : (w read : Place) → Leaves t earlier hints read (Write w) → Says t s (Sees w read)
+    source_rule w read = what_is_left read (Write w) (λ r. ReadsCell t r (λ cell. IsLastBefore t s cell w r))
+        (λ r k reads left seen. (r.cell, reads, subst (λ x. IsLastBefore t s r.cell x r.place) (⊎_elim (λ same. same) (λ by. absurd by.2) left) seen))
+        (λ r reads has none. absurd has)
 
-    initial_rule : (from to : Place) (cell value : ℕ) → IsSome (operation_at t to) → ReadsFirst t earlier cell value from to → (moment s from < moment s to) × SaysMore t s from to Initial
-    initial_rule from to cell value there only = ⊎_elim seen first (seen_or_first cell value from only.reads) where
-      reads : IsSome (read_at t from cell)
-      reads = is_some_at (read_at t from cell) value only.reads
+    first_rule : (read : Place) → Leaves t earlier hints read First → Says t s (SeesFirst read)
+    first_rule read = what_is_left read First (λ r. ReadsCell t r (λ cell. HasNoneBefore t s cell r))
+        (λ r k reads left seen. absurd (⊎_elim (λ has. has) (λ by. by.2) left))
+        (λ r reads has none. (r.cell, reads, none))
 
-      seen : (w : Place) × (written_at t w cell ≡ Some value) × IsSeen t s cell w from → (moment s from < moment s to) × SaysMore t s from to Initial
-      seen found =
-          let less : moment s found.0 < moment s from = found.2.before in
-          let same : moment s found.0 ≡ moment s from = ap (moment s) (only_write cell value from from found.0 only.reads only.writes found.1 found.2) in
-          absurd (omega arith)
+    after_rule : (a read : Place) → Leaves t earlier hints read (After a) → moment s a < moment s read
+    after_rule a read = what_is_left read (After a) (λ r. moment s a < moment s r)
+        (λ r k reads left seen. let in_k : IsIn s k = writes_in k r.cell seen.writes in
+        let later : moment s a ≤ moment s k = ⊎_elim (up_to a k in_k) (λ by. let less : moment s a < moment s k = shows by.0 a k in_k by.1 by.2 in omega arith) left in
+        omega (arith, later, seen.before))
+        (λ r reads has none. absurd has)
 
-      first : SeesFirst t s cell from → (moment s from < moment s to) × SaysMore t s from to Initial
-      first is = (⊎_elim writes other only.changed, λ a reads'. subst (λ c. SeesFirst t s c from) (one_cell t from cell a reads reads') is) where
-        writes : IsSome (written_at t to cell) → moment s from < moment s to
-        writes some = strictly from to (reads_in from cell reads) (is_in to there) only.other (is.none to some)
+    before_rule : (read write : Place) → IsBeforeAll t earlier hints read write → moment s read < moment s write
+    before_rule read write is = strictly read write (reads_in read is.writes.cell is.writes.reads) (writes_in write is.writes.cell is.writes.writes) is.other
+        (what_is_left read (Until write) (λ r. WritesWhatIsRead t write r → moment s r ≤ moment s write)
+        (λ r k reads left seen writes. ⊎_elim
+        (λ sooner.
+        let last : moment s write ≤ moment s k = seen.last write (writes_cell write r.place r.cell reads writes) sooner in
+        let in_write : IsIn s write = writes_in write writes.cell writes.writes in
+        let less : moment s k < moment s write = ⊎_elim (rises k write in_write) (λ by. shows by.0 k write in_write by.1 by.2) left in
+        absurd (omega arith))
+        (λ later. later)
+        (cases_lt (moment s write) (moment s r.place)))
+        (λ r reads has none writes. none.none write (writes_cell write r.place r.cell reads writes))
+        is.left is.writes)
 
-        other : ReadsOther t to cell value → moment s from < moment s to
-        other differs = ⊎_elim (λ less. less)
-            (λ above. absurd (other_first cell value to from differs only.reads (record { none = λ w some. let after : moment s from ≤ moment s w = is.none w some in omega arith }) is))
-            (cases_lt (moment s from) (moment s to))
+    has_reader : (write source : Place) (fact : Fact) → write ≢ source → Holds t s fact → HasReader t earlier hints write source fact → moment s write < moment s source
+    has_reader write source (Before a b) other holds is = absurd is
+    has_reader write source (Sees seen read) other holds is =
+        let last : IsLastBefore t s is.1.writes.cell seen read = of_cell (λ cell. IsLastBefore t s cell seen read) read is.1.writes.cell is.1.writes.reads holds.says in
+        let sooner : moment s write < moment s read = before write read (reads_in read is.1.writes.cell is.1.writes.reads) is.1.before in
+        subst (λ x. moment s write < moment s x) is.0
+        (strictly write seen (writes_in write is.1.writes.cell is.1.writes.writes) (writes_in seen is.1.writes.cell last.writes) (λ same. other (same ∙ is.0)) (last.last write is.1.writes.writes sooner))
+    has_reader write source (SeesFirst read) other holds is = absurd is
+    has_reader write source (Hidden hidden read) other holds is = absurd is
 
-    joined : (from to : Place) (a b : Edge) → Holds t s a → Holds t s b → AreJoined from to a b → (moment s from < moment s a.to) × (moment s a.to < moment s to)
-    joined from to a b holds_a holds_b are = (
-      subst (λ x. moment s x < moment s a.to) are.starts holds_a.before,
-      subst (λ x. moment s a.to < moment s x) are.ends (subst (λ x. moment s x < moment s b.to) (sym are.middle) holds_b.before),
+    hidden_rule : (write read by : Place) → IsHidden t earlier hints write read by → Says t s (Hidden write read)
+    hidden_rule write read by is = (
+      is.writes.cell,
+      is.writes.reads,
+      record {
+        write = by;
+        writes = is.writes.writes;
+        after = before write by (writes_in by is.writes.cell is.writes.writes) is.after;
+        before = before by read (reads_in read is.writes.cell is.writes.reads) is.before;
+      },
     )
 
-    joined_rule : (from to : Place) (a b : Edge) → Holds t s a → Holds t s b → AreJoined from to a b → moment s from < moment s to
-    joined_rule from to a b holds_a holds_b are =
-        let both : (moment s from < moment s a.to) × (moment s a.to < moment s to) = joined from to a b holds_a holds_b are in
-        omega (arith, both.0, both.1)
+    ordered : (rule : Rule) (a b : Place) → IsSome (operation_at t b) → IsOrdered t earlier hints a b rule → moment s a < moment s b
+    ordered Joined a b there is = joined hints a b (is_in b there) is
+    ordered (HiddenBy by) a b there is = absurd is
+    ordered Source a b there is = absurd is
+    ordered AfterAll a b there is = after_rule a b is
+    ordered BeforeAll a b there is = before_rule a b is
+    ordered AfterSource a b there is = by_hint (HasReader t earlier hints a b) (moment s a < moment s b) (λ fact holds reader. has_reader a b fact is.other holds reader) is.reader
 
-    hiding_rule : (from to : Place) (first second : ℕ) (a b : Edge) → Holds t s a → Holds t s b → IsHiding t from to a b → (moment s from < moment s to) × SaysMore t s from to (Hidden first second)
-    hiding_rule from to first second a b holds_a holds_b hiding = (joined_rule from to a b holds_a holds_b hiding.joined, unseen) where
-      unseen : (cell : ℕ) → IsSome (read_at t to cell) → IsSeen t s cell from to → ⊥
-      unseen cell reads seen =
-          let both : (moment s from < moment s a.to) × (moment s a.to < moment s to) = joined from to a b holds_a holds_b hiding.joined in
-          let writes : IsSome (written_at t a.to cell) = subst (λ c. IsSome (written_at t a.to c)) (one_cell t to hiding.hides.cell cell hiding.hides.reads reads) hiding.hides.writes in
-          let last : moment s a.to ≤ moment s from = seen.last a.to writes both.1 in
-          omega (arith, both.0)
+    hidden_by : (rule : Rule) (write read : Place) → IsHiddenBy t earlier hints write read rule → Says t s (Hidden write read)
+    hidden_by Joined write read is = absurd is
+    hidden_by (HiddenBy by) write read is = hidden_rule write read by is
+    hidden_by Source write read is = absurd is
+    hidden_by AfterAll write read is = absurd is
+    hidden_by BeforeAll write read is = absurd is
+    hidden_by AfterSource write read is = absurd is
 
-    before_read_rule : (from to : Place) (source before : Edge) → Holds t s source → Holds t s before → IsBeforeRead t from to source before → moment s from < moment s to
-    before_read_rule from to source before holds_source holds_before is = strictly from to (writes_in from is.writes.cell is.writes.writes) in_to is.other below where
-      seen : IsSeen t s is.writes.cell source.from source.to
-      seen = source_says t s source.from source.to source.reason is.seen holds_source.more is.writes.cell is.writes.reads
+    by_rule : (fact : Fact) (rule : Rule) → IsOf t fact → FollowsBy t earlier hints fact rule → Says t s fact
+    by_rule (Before a b) rule of is = ordered rule a b of.other is
+    by_rule (Sees w r) rule of is = source_rule w r is.1
+    by_rule (SeesFirst r) rule of is = first_rule r is.1
+    by_rule (Hidden w r) rule of is = hidden_by rule w r is
 
-      in_to : IsIn s to
-      in_to = subst (IsIn s) is.ends (writes_in source.from is.writes.cell seen.writes)
-
-      sooner : moment s from < moment s source.to
-      sooner = subst (λ x. moment s from < moment s x) (sym is.read) (subst (λ x. moment s x < moment s before.to) is.starts holds_before.before)
-
-      below : moment s from ≤ moment s to
-      below = subst (λ x. moment s from ≤ moment s x) is.ends (seen.last from is.writes.writes sooner)
-
-    overwritten_rule : (from to : Place) (source before : Edge) → Holds t s source → Holds t s before → IsOverwritten t from to source before → moment s from < moment s to
-    overwritten_rule from to source before holds_source holds_before is = ⊎_elim (λ less. less) (λ above. absurd (late above)) (cases_lt (moment s from) (moment s to)) where
-      seen : IsSeen t s is.writes.cell source.from from
-      seen = subst (IsSeen t s is.writes.cell source.from) is.starts
-          (source_says t s source.from source.to source.reason is.seen holds_source.more is.writes.cell (subst (λ x. IsSome (read_at t x is.writes.cell)) (sym is.starts) is.writes.reads))
-
-      later : moment s source.from < moment s to
-      later = subst (λ x. moment s source.from < moment s x) is.ends (subst (λ x. moment s x < moment s before.to) (sym is.write) holds_before.before)
-
-      late : moment s to ≤ moment s from → ⊥
-      late above =
-          let less : moment s to < moment s from = strictly to from (writes_in to is.writes.cell is.writes.writes) (reads_in from is.writes.cell is.writes.reads) (λ same. is.other (sym same)) above in
-          let last : moment s to ≤ moment s source.from = seen.last to is.writes.writes less in
-          let after : moment s source.from < moment s to = later in
-          omega arith
-
-    -- ---- every reason
-
-    of_two : {Q : Type 0} (j k : ℕ) (P : Edge → Edge → Type 0) → ((a b : Edge) → Holds t s a → Holds t s b → P a b → Q) → OfTwo earlier j k P → Q
-    of_two {Q} j k P rule = go (slice_get earlier j) (slice_get earlier k) refl refl where
-      at : (i : ℕ) (edge : Edge) → slice_get earlier i ≡ Some edge → Holds t s edge
-      at i edge is = subst (Holds t s) (get_or_from_slice_get earlier i edge edge is) (known i edge (slice_get_within earlier i edge is))
-
-      go : (o u : Option Edge) → slice_get earlier j ≡ o → slice_get earlier k ≡ u → IsSomeAnd {T = Edge × Edge} (option_and_then (λ a. option_map (λ b. (a, b)) u) o) (λ both. P both.0 both.1) → Q
-      go None u e f holds = absurd holds
-      go (Some a) None e f holds = absurd holds
-      go (Some a) (Some b) e f holds = rule a b (at j a e) (at k b f) holds
-
-    by_reason : (from to : Place) (reason : Reason) → IsSome (operation_at t to) → FollowsBy t earlier from to reason → (moment s from < moment s to) × SaysMore t s from to reason
-    by_reason from to Program there is = (subst (λ p. moment s (place_of p from.at) < moment s to) (sym is.process) (moment-rises s to.process from.at to.at is.order (is_in to there)), tt)
-    by_reason from to Source there is = source_rule from to is.0 is.1 is.2
-    by_reason from to Initial there is = initial_rule from to is.0 is.1 there is.2
-    by_reason from to (Joined j k) there is = (of_two {Q = moment s from < moment s to} j k (AreJoined from to) (joined_rule from to) is, tt)
-    by_reason from to (Hidden j k) there is = of_two {Q = (moment s from < moment s to) × SaysMore t s from to (Hidden j k)} j k (IsHiding t from to) (hiding_rule from to j k) is
-    by_reason from to (AfterSource j k) there is = (of_two {Q = moment s from < moment s to} j k (IsBeforeRead t from to) (before_read_rule from to) is, tt)
-    by_reason from to (BeforeNext j k) there is = (of_two {Q = moment s from < moment s to} j k (IsOverwritten t from to) (overwritten_rule from to) is, tt)
-
-    pub follows_holds : (edge : Edge) → Follows t earlier edge → Holds t s edge
-    follows_holds edge follows =
-        let both : (moment s edge.from < moment s edge.to) × SaysMore t s edge.from edge.to edge.reason = by_reason edge.from edge.to edge.reason follows.to follows.reason in
-        record { before = both.0; more = both.1 }
+    pub follows_holds : (line : Line) → Follows t earlier hints line → Holds t s line.fact
+    follows_holds line follows = record { of = follows.operations; says = by_rule line.fact line.rule follows.operations follows.rule }

@@ -1,5 +1,5 @@
 -- What a read of a legal front sees: the last write before it, or first contents, which are one value for all that see them.
-use Rattle.std.proofs.Common.{ℕ, ◌≡◌, ◌≢◌, ◌+◌, ◌<◌, ◌≤◌, ◌⊎◌, ◌==◌, Bool, true, false, List, [], ◌∷◌, length, Option, None, Some, IsSome, IsTrue, if◌then◌else◌, refl, sym, ap, ◌∙◌, subst, ⊎_elim, inl, inr, arith}
+use Rattle.std.proofs.Common.{ℕ, ◌≡◌, ◌≢◌, ◌<◌, ◌≤◌, ◌⊎◌, Bool, List, [], ◌∷◌, length, Option, None, Some, IsSome, IsTrue, if◌then◌else◌, refl, sym, ap, ◌∙◌, subst, ⊎_elim, inl, inr, arith}
 use Rattle.std.specs.Option.{option_or, option_and_then}
 use Rattle.std.proofs.lemmas.Bool.{cases_eq, cases_lt, eq-eqb, ne_eqb, eqb-true}
 use Rattle.scm_sequences.specs.declared.op.Op.{Op}
@@ -8,8 +8,8 @@ use Rattle.scm_sequences.specs.Ops.{cell_of, read_of, may_give, finds}
 use Rattle.scm_sequences.specs.Traces.{Trace, initial_of}
 use Rattle.scm_sequences.specs.Fronts.{count_in, following, last_written, first_read, value_before, IsLegal}
 use Rattle.scm_sequences.specs.FrontLaws.{last_written-nil, last_written-step, first_read-step, value_before-is, IsLegal-earlier, IsLegal-operation, IsLegal-finds}
-use Rattle.scm_orders.specs.declared.edge.Place.{Place}
-use Rattle.scm_orders.specs.Places.{operation_at, read_at, written_at}
+use Rattle.scm_orders.specs.declared.place.Place.{Place}
+use Rattle.scm_orders.specs.Places.{read_at, written_at}
 use Rattle.scm_orders.specs.Moments.{moment}
 use Rattle.scm_orders.proofs.PlaceLaws.{none_is, is_some_at}
 use Rattle.scm_orders.proofs.MomentLaws.{place_of, IsIn, moment-earlier, moment-newest, IsIn-earlier, IsIn-newest, is_newest, moment-below}

@@ -1,5 +1,7 @@
 pub mod Places
+pub mod Facts
 pub mod Moments
+pub mod Candidates
 pub mod Following
 pub mod Refuting
 pub use Rattle.scm_sequences.specs.Traces

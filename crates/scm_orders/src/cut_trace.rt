@@ -1,14 +1,22 @@
 //! A trace cut to lengths, as it is asked about.
-ghost use Rattle.std.specs.Prelude.{ℕ, ◌≡◌, ◌≤◌, length, slice_index, Some, None, MatchOption};
+ghost use Rattle.std.specs.Prelude.{ℕ, ◌≡◌, ◌≤◌, length, slice_index, None, MatchOption};
 ghost use Rattle.scm_sequences.specs.declared.limits.TheConstants.{MOST_OPERATIONS, MOST_PROCESSES};
 ghost use Rattle.scm_sequences.specs.Ops.{read_of as op_read_of, written_to as op_written_to};
 ghost use Rattle.scm_sequences.specs.Sequences.{operations};
 ghost use Rattle.scm_sequences.specs.Traces.{initial_of, trace_of, cut_to};
-ghost use Rattle.scm_orders.specs.Places.{operation_at, read_at, written_at};
+ghost use Rattle.scm_orders.specs.Places.{operation_at, read_at, written_at, IsReading};
 
 use crate::Place;
 use scm_sequences::{Lengths, Op, Sequences};
 use std::marker::Model;
+
+/// A read: where it stands, the cell that it reads, and what it read there.
+#[derive(Clone, Copy)]
+pub(crate) struct Reading {
+    pub(crate) place: Place,
+    pub(crate) cell: usize,
+    pub(crate) value: u64,
+}
 
 /// The trace of these first contents and these sequences, cut to these lengths.
 #[derive(Drop)]
@@ -116,13 +124,14 @@ impl<'a> CutTrace<'a> {
         written_to(self.operation(place)?, cell)
     }
 
-    /// The cell that the operation at this place reads, if it reads one, and what it read there.
-    pub(crate) fn reading(&self, place: Place) -> Option<(usize, u64)>
-        ensures { MatchOption result ((cell : ℕ) → read_at self.now place cell ≡ None) (λ found. read_at self.now place found.0 ≡ Some found.1) }
+    /// What the operation at this place reads, if it reads.
+    pub(crate) fn reading(&self, place: Place) -> Option<Reading>
+        ensures { MatchOption result ((cell : ℕ) → read_at self.now place cell ≡ None) (λ read. IsReading self.now place read) }
     {
         let op = self.operation(place)?;
-        let value = read_of(op, op.cell())?;
-        Some((op.cell(), value))
+        let cell = op.cell();
+        let value = read_of(op, cell)?;
+        Some(Reading { place, cell, value })
     }
 
     /// What this cell holds at first, if that is known.

@@ -1,151 +1,147 @@
-//! Whether an edge follows from the trace and from earlier edges.
-ghost use Rattle.std.specs.Prelude.{◌≡◌, ◌↔◌, IsTrue};
-ghost use Rattle.scm_orders.specs.Following.{Follows, FollowsBy, IsProgramOrder, IsOnlySource, SeesOnly, IsBeforeWrites, ReadsFirst, AreJoined, IsHiding, IsBeforeRead, IsOverwritten, two_of};
+//! Whether a line follows from the trace and from earlier lines.
+ghost use Rattle.std.specs.Prelude.{ℕ, ◌<◌, ◌↔◌, All, length, IsTrue, IsSomeAnd};
+ghost use Rattle.scm_orders.specs.Facts.{fact_at as known_at};
+ghost use Rattle.scm_orders.specs.Following.{Follows, FollowsBy, HasFewHints, IsOf, AreOperations, IsOrdered, IsHiddenBy, IsHidden, IsBeforeAll, IsWriteBefore, HasReader, IsAfterSource, IsSource};
 
+use crate::basis::Basis;
+use crate::candidates::{Left, leaves, writes_what_is_read};
 use crate::cut_trace::CutTrace;
-use crate::sources::{sees_no_first, sees_no_other, writes_or_reads_other, writes_what_is_read};
-use crate::{Edge, Place, Reason};
+use crate::showing::{fact_at, is_before, is_joined};
+use crate::{Fact, Line, MOST_HINTS, Place, Rule};
 
-/// Whether the edge follows from the trace and the earlier edges.
-pub(crate) fn follows(trace: &CutTrace<'_>, earlier: &[Edge], edge: Edge) -> bool
-    ensures { IsTrue result ↔ Follows trace.now earlier.now edge }
+/// Whether the line follows from the trace and the earlier lines, with these hints.
+pub(crate) fn follows(on: &Basis<'_>, line: Line) -> bool
+    ensures { IsTrue result ↔ Follows on.now.trace.now on.now.earlier.now on.now.hints.now line }
 {
-    trace.operation(edge.from).is_some()
-        && trace.operation(edge.to).is_some()
-        && follows_by(trace, earlier, edge)
+    are_earlier(on.earlier.len(), on.hints)
+        && has_few_hints(line.rule, line.count)
+        && is_of(on.trace, line.fact)
+        && follows_by(on, line.fact, line.rule)
 }
 
-// Whether it does for its reason.
-fn follows_by(trace: &CutTrace<'_>, earlier: &[Edge], edge: Edge) -> bool
-    ensures { IsTrue result ↔ FollowsBy trace.now earlier.now edge.from edge.to edge.reason }
+// Whether the hints are numbers of the first `count` lines.
+fn are_earlier(count: usize, hints: &[u32]) -> bool
+    ensures { IsTrue result ↔ All (λ hint. hint < count) hints.now }
 {
-    match edge.reason {
-        Reason::Program => is_program_order(edge.from, edge.to),
-        Reason::Source => is_only_source(trace, earlier, edge.from, edge.to),
-        Reason::Initial => is_before_writes(trace, earlier, edge.from, edge.to),
-        Reason::Joined { first, second } => match two(earlier, first, second) {
-            Some((a, b)) => are_joined(edge.from, edge.to, a, b),
-            None => false,
-        },
-        Reason::Hidden { first, second } => match two(earlier, first, second) {
-            Some((a, b)) => is_hiding(trace, edge.from, edge.to, a, b),
-            None => false,
-        },
-        Reason::AfterSource { source, before } => match two(earlier, source, before) {
-            Some((a, b)) => is_before_read(trace, edge.from, edge.to, a, b),
-            None => false,
-        },
-        Reason::BeforeNext { source, before } => match two(earlier, source, before) {
-            Some((a, b)) => is_overwritten(trace, edge.from, edge.to, a, b),
-            None => false,
-        },
+    hints.iter().all(|hint| (*hint as usize) < count)
+}
+
+// Whether the rule allows this many hints.
+fn has_few_hints(rule: Rule, count: u32) -> bool
+    ensures { IsTrue result ↔ HasFewHints rule count }
+{
+    match rule {
+        Rule::Joined => true,
+        _ => count <= MOST_HINTS,
     }
 }
 
-// Whether both are of one process, which has them in this order.
-fn is_program_order(from: Place, to: Place) -> bool
-    ensures { IsTrue result ↔ IsProgramOrder from to }
+// Whether the fact is one of operations of the trace.
+fn is_of(trace: &CutTrace<'_>, fact: Fact) -> bool
+    ensures { IsTrue result ↔ IsOf trace.now fact }
 {
-    from.process == to.process && from.at < to.at
-}
-
-// Whether `to` reads a cell, and nothing but `from` is left that it can see.
-fn is_only_source(trace: &CutTrace<'_>, earlier: &[Edge], from: Place, to: Place) -> bool
-    ensures { IsTrue result ↔ IsOnlySource trace.now earlier.now from to }
-{
-    match trace.reading(to) {
-        Some((cell, value)) => sees_only(trace, earlier, cell, value, from, to),
-        None => false,
+    match fact {
+        Fact::Before { from, to } => are_operations(trace, from, to),
+        Fact::Sees { write, read } | Fact::Hidden { write, read } => {
+            are_operations(trace, write, read)
+        }
+        Fact::SeesFirst { read } => trace.operation(read).is_some(),
     }
 }
 
-// Whether `to` reads this value of this cell, and nothing but `from` is left that it can see.
-fn sees_only(
-    trace: &CutTrace<'_>,
-    earlier: &[Edge],
-    cell: usize,
-    value: u64,
-    from: Place,
-    to: Place,
-) -> bool
-    ensures { IsTrue result ↔ SeesOnly trace.now earlier.now cell value from to }
+// Whether there are operations at both places.
+fn are_operations(trace: &CutTrace<'_>, a: Place, b: Place) -> bool
+    ensures { IsTrue result ↔ AreOperations trace.now a b }
 {
-    trace.read(to, cell) == Some(value)
-        && sees_no_other(trace, earlier, cell, value, from, to)
-        && sees_no_first(trace, earlier, cell, value, to)
+    trace.operation(a).is_some() && trace.operation(b).is_some()
 }
 
-// Whether `from` reads a cell, no write is left that it can see, and `to` writes the cell or read another value of it.
-fn is_before_writes(trace: &CutTrace<'_>, earlier: &[Edge], from: Place, to: Place) -> bool
-    ensures { IsTrue result ↔ IsBeforeWrites trace.now earlier.now from to }
+// Whether the fact follows by the rule.
+fn follows_by(on: &Basis<'_>, fact: Fact, rule: Rule) -> bool
+    ensures { IsTrue result ↔ FollowsBy on.now.trace.now on.now.earlier.now on.now.hints.now fact rule }
 {
-    match trace.reading(from) {
-        Some((cell, value)) => reads_first(trace, earlier, cell, value, from, to),
-        None => false,
+    match fact {
+        Fact::Before { from, to } => is_ordered(on, from, to, rule),
+        Fact::Sees { write, read } => { is_source(rule) && leaves(on, read, Left::Write(write)) }
+        Fact::SeesFirst { read } => { is_source(rule) && leaves(on, read, Left::First) }
+        Fact::Hidden { write, read } => is_hidden_by(on, write, read, rule),
     }
 }
 
-// Whether `from` reads this value of this cell, no write is left that it can see, and `to` is another operation, which
-// writes the cell or read another value of it.
-fn reads_first(
-    trace: &CutTrace<'_>,
-    earlier: &[Edge],
-    cell: usize,
-    value: u64,
-    from: Place,
-    to: Place,
-) -> bool
-    ensures { IsTrue result ↔ ReadsFirst trace.now earlier.now cell value from to }
+fn is_source(rule: Rule) -> bool
+    ensures { IsTrue result ↔ IsSource rule }
 {
-    from != to
-        && trace.read(from, cell) == Some(value)
-        && writes_or_reads_other(trace, to, cell, value)
-        && sees_no_other(trace, earlier, cell, value, from, from)
+    matches!(rule, Rule::Source)
 }
 
-// The edges of these numbers, where both are earlier ones.
-fn two(earlier: &[Edge], first: u32, second: u32) -> Option<(Edge, Edge)>
-    ensures { result ≡ two_of earlier.now first second }
+// Whether the one operation stands before the other by the rule.
+fn is_ordered(on: &Basis<'_>, from: Place, to: Place, rule: Rule) -> bool
+    ensures { IsTrue result ↔ IsOrdered on.now.trace.now on.now.earlier.now on.now.hints.now from to rule }
 {
-    let a = earlier.get(first as usize)?;
-    let b = earlier.get(second as usize)?;
-    Some((*a, *b))
+    match rule {
+        Rule::Joined => is_joined(on.earlier, on.hints, from, to),
+        Rule::AfterAll => leaves(on, to, Left::After(from)),
+        Rule::BeforeAll => is_before_all(on, from, to),
+        Rule::AfterSource => is_after_source(on, from, to),
+        Rule::Hidden { .. } | Rule::Source => false,
+    }
 }
 
-// Whether one edge and then the other leads from `from` to `to`.
-fn are_joined(from: Place, to: Place, a: Edge, b: Edge) -> bool
-    ensures { IsTrue result ↔ AreJoined from to a b }
+// Whether the write is hidden from the read by the rule.
+fn is_hidden_by(on: &Basis<'_>, write: Place, read: Place, rule: Rule) -> bool
+    ensures { IsTrue result ↔ IsHiddenBy on.now.trace.now on.now.earlier.now on.now.hints.now write read rule }
 {
-    a.from == from && a.to == b.from && b.to == to
+    match rule {
+        Rule::Hidden { by } => is_hidden(on, write, read, by),
+        _ => false,
+    }
 }
 
-// Whether they do, and what stands between them writes a cell that `to` reads.
-fn is_hiding(trace: &CutTrace<'_>, from: Place, to: Place, a: Edge, b: Edge) -> bool
-    ensures { IsTrue result ↔ IsHiding trace.now from to a b }
+// Whether `by` writes the cell that is read, and stands between the write and the read.
+fn is_hidden(on: &Basis<'_>, write: Place, read: Place, by: Place) -> bool
+    ensures { IsTrue result ↔ IsHidden on.now.trace.now on.now.earlier.now on.now.hints.now write read by }
 {
-    are_joined(from, to, a, b) && writes_what_is_read(trace, a.to, to)
+    writes_what_is_read(on.trace, by, read)
+        && is_before(on.earlier, on.hints, write, by)
+        && is_before(on.earlier, on.hints, by, read)
 }
 
-// Whether `to` is the source of a read, and `from`, another write of the cell, stands before that read.
-fn is_before_read(trace: &CutTrace<'_>, from: Place, to: Place, source: Edge, before: Edge) -> bool
-    ensures { IsTrue result ↔ IsBeforeRead trace.now from to source before }
+// Whether `write` is another operation, which writes the cell that is read, and what is left for the read to see comes
+// before it.
+fn is_before_all(on: &Basis<'_>, read: Place, write: Place) -> bool
+    ensures { IsTrue result ↔ IsBeforeAll on.now.trace.now on.now.earlier.now on.now.hints.now read write }
 {
-    source.reason.is_source()
-        && source.to == before.to
-        && before.from == from
-        && source.from == to
-        && to != from
-        && writes_what_is_read(trace, from, source.to)
+    read != write
+        && writes_what_is_read(on.trace, write, read)
+        && leaves(on, read, Left::Before(write))
 }
 
-// Whether `from` reads what its source wrote, and that stands before `to`, another write of the cell.
-fn is_overwritten(trace: &CutTrace<'_>, from: Place, to: Place, source: Edge, before: Edge) -> bool
-    ensures { IsTrue result ↔ IsOverwritten trace.now from to source before }
+// Whether a hint says that `source` is what a read sees, and `write`, another write of the cell, stands before that read.
+fn is_after_source(on: &Basis<'_>, write: Place, source: Place) -> bool
+    ensures { IsTrue result ↔ IsAfterSource on.now.trace.now on.now.earlier.now on.now.hints.now write source }
 {
-    source.reason.is_source()
-        && source.from == before.from
-        && source.to == from
-        && before.to == to
-        && from != to
-        && writes_what_is_read(trace, to, from)
+    write != source
+        && on
+            .hints
+            .iter()
+            .any(|hint| hint_has_reader(on, write, source, *hint))
+}
+
+// Whether this hint does.
+fn hint_has_reader(on: &Basis<'_>, write: Place, source: Place, hint: u32) -> bool
+    ensures { IsTrue result ↔ IsSomeAnd (known_at on.now.earlier.now hint) (HasReader on.now.trace.now on.now.earlier.now on.now.hints.now write source) }
+{
+    match fact_at(on.earlier, hint) {
+        Some(Fact::Sees { write: seen, read }) => {
+            seen == source && is_write_before(on, write, read)
+        }
+        _ => false,
+    }
+}
+
+// Whether the write stands before the read, and writes its cell.
+fn is_write_before(on: &Basis<'_>, write: Place, read: Place) -> bool
+    ensures { IsTrue result ↔ IsWriteBefore on.now.trace.now on.now.earlier.now on.now.hints.now write read }
+{
+    writes_what_is_read(on.trace, write, read) && is_before(on.earlier, on.hints, write, read)
 }

@@ -1,14 +1,18 @@
-//! Short refutations: a list of orders between operations, each with its reason, that ends with an operation before itself;
-//! and the test whether such a list leaves a trace no schedule.
+//! Short refutations: a list of what holds in every legal schedule, line by line, each with its reason, that ends with an
+//! operation before itself; and the test whether such a list leaves a trace no schedule.
 #![tactic(auto)]
 
+mod basis;
+mod candidates;
 mod cut_trace;
-mod edge;
+mod derivation;
 mod following;
 mod laws;
+mod place;
 mod refuting;
-mod sources;
+mod showing;
 
-pub use edge::{Edge, Place, Reason};
-pub use laws::edges_hold;
+pub use derivation::{Derivation, Fact, Line, MOST_HINTS, Rule};
+pub use laws::lines_hold;
+pub use place::Place;
 pub use refuting::orders_refute;

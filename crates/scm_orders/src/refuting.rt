@@ -1,51 +1,81 @@
-//! The test whether a list of edges leaves a trace no schedule.
-ghost use Rattle.std.specs.Prelude.{ℕ, ◌≡◌, ◌↔◌, IsTrue};
+//! The test whether a derivation leaves a trace no schedule.
+ghost use Rattle.std.specs.Prelude.{◌<◌, ◌↔◌, IsTrue, length};
 ghost use Rattle.scm_sequences.specs.Traces.{cut_to, trace_of};
 ghost use Rattle.scm_sequences.specs.Fronts.{IsConsistent};
-ghost use Rattle.scm_orders.specs.Refuting.{AllFollow, IsRefutingList};
+ghost use Rattle.scm_orders.specs.Refuting.{LineFollows, AllFollow, IsContradiction, Refutes};
 
-use crate::Edge;
+use crate::basis::Basis;
 use crate::cut_trace::CutTrace;
 use crate::following::follows;
+use crate::{Derivation, Fact, Line};
 use scm_sequences::{Lengths, Sequences};
 
-/// Whether these edges refute the trace with these first contents and these sequences, cut to these lengths: each edge
-/// follows from the trace and the edges before it, and the last one says that an operation stands before itself. Then
-/// the trace has no legal schedule.
+/// Whether this derivation refutes the trace with these first contents and these sequences, cut to these lengths: each line
+/// follows from the trace and the lines before it, and the last one puts an operation before itself. Then the trace has
+/// no legal schedule.
 ///
-/// The edges are data: a place beyond the lengths, a number of no earlier edge or a reason that doesn't hold refutes
-/// nothing. It takes no memory. An edge that tells what a read sees costs a look at each operation, and at each earlier
-/// edge for each write of the value that was read; every other edge costs the same however large the trace is.
+/// The derivation is data: a place beyond the lengths, hints that aren't there or aren't numbers of earlier lines, or a rule
+/// that doesn't hold refute nothing. It takes no memory. A line that tells what a read can see costs a look at each operation,
+/// and at the hints, at most 255, for each write of the value that was read; every other line costs a look at its hints.
 pub fn orders_refute(
     initials: &[Option<u64>],
     sequences: &Sequences,
     lengths: &Lengths,
-    edges: &[Edge],
+    derivation: &Derivation,
 ) -> bool
-    ensures exact { IsTrue result ↔ IsRefutingList (cut_to (trace_of initials.now sequences.now) lengths.now) edges.now }
+    ensures exact { IsTrue result ↔ Refutes (cut_to (trace_of initials.now sequences.now) lengths.now) derivation.now.lines.items derivation.now.hints.items }
     ensures none { IsTrue result → IsConsistent (cut_to (trace_of initials.now sequences.now) lengths.now) → ⊥ }
 {
-    refute(&CutTrace::new(initials, sequences, lengths), edges)
+    let trace = CutTrace::new(initials, sequences, lengths);
+    refute(&trace, &derivation.lines, &derivation.hints)
 }
 
-// Whether the edges refute the trace.
-fn refute(trace: &CutTrace<'_>, edges: &[Edge]) -> bool
-    ensures { IsTrue result ↔ IsRefutingList trace.now edges.now }
+// Whether the lines with these hints refute the trace.
+fn refute(trace: &CutTrace<'_>, lines: &[Line], hints: &[u32]) -> bool
+    ensures { IsTrue result ↔ Refutes trace.now lines.now hints.now }
 {
-    match edges.last() {
-        Some(edge) => edge.from == edge.to && all_follow(trace, edges),
+    match lines.last() {
+        Some(line) => is_contradiction(line.fact) && all_follow(trace, lines, hints),
         None => false,
     }
 }
 
-// Whether each edge follows from the trace and the edges before it.
-fn all_follow(trace: &CutTrace<'_>, edges: &[Edge]) -> bool
-    ensures { IsTrue result ↔ AllFollow trace.now edges.now }
+// Whether the fact puts an operation before itself.
+fn is_contradiction(fact: Fact) -> bool
+    ensures { IsTrue result ↔ IsContradiction fact }
 {
-    for k in 0..edges.len() {
-        if !follows(trace, &edges[..k], edges[k]) {
+    match fact.order() {
+        Some((from, to)) => to.is_up_to(from),
+        None => false,
+    }
+}
+
+// Whether each line follows from the trace and the lines before it.
+fn all_follow(trace: &CutTrace<'_>, lines: &[Line], hints: &[u32]) -> bool
+    ensures { IsTrue result ↔ AllFollow trace.now lines.now hints.now }
+{
+    for k in 0..lines.len() {
+        if !line_follows(trace, lines, hints, k, lines[k]) {
             return false;
         }
     }
     true
+}
+
+// Whether this line does as line `k`.
+fn line_follows(trace: &CutTrace<'_>, lines: &[Line], hints: &[u32], k: usize, line: Line) -> bool
+    requires { k < length lines.now }
+    ensures { IsTrue result ↔ LineFollows trace.now lines.now hints.now k line }
+{
+    let first = line.first as usize;
+    let end = first + line.count as usize;
+    if end > hints.len() {
+        return false;
+    }
+    let basis = Basis {
+        trace,
+        earlier: &lines[..k],
+        hints: &hints[first..end],
+    };
+    follows(&basis, line)
 }

@@ -1,7 +1,7 @@
 //! What is written for a short refutation, with numbers that no short script has.
 use crate::fakes::{StepWriter, Wire};
 use scm_book::Reply;
-use scm_orders::{Edge, Place, Reason};
+use scm_orders::{Derivation, Fact, Line, Place, Rule};
 use scm_sequences::NoMemory;
 use scm_sessions::{Port, RunFault, write_reply};
 use std::alloc::Global;
@@ -20,42 +20,63 @@ fn line_of(alloc: Global, reply: &Reply) -> Result<Vec<u8>, RunFault> {
     Ok(port.into_inner().taken)
 }
 
-// One edge with this reason, as a short refutation.
-fn cycle_of_one(alloc: Global, reason: Reason) -> Result<Reply, NoMemory> {
+// One line with these hints, as a short refutation.
+fn cycle_of_one(alloc: Global, fact: Fact, rule: Rule, hints: &[u32]) -> Result<Reply, NoMemory> {
+    let (mut lines, mut all) = (Vec::new(alloc), Vec::new(alloc));
+    all.push(9)?;
+    for hint in hints {
+        all.push(*hint)?;
+    }
+    let count = u32::try_from(hints.len()).unwrap_or(0);
+    lines.push(Line {
+        fact,
+        rule,
+        first: 1,
+        count,
+    })?;
+    Ok(Reply::Cycle(Derivation { lines, hints: all }))
+}
+
+#[test]
+fn short_refutations_have_their_text(rt: HostRuntime) -> Result<(), Fail> {
     let from = Place { process: 0, at: 3 };
     let to = Place {
         process: 31,
         at: 1_000_000,
     };
-    let mut edges = Vec::new(alloc);
-    edges.push(Edge { from, to, reason })?;
-    Ok(Reply::Cycle(edges))
-}
-
-#[test]
-fn short_refutations_have_their_text(rt: HostRuntime) -> Result<(), Fail> {
-    let (first, second) = (4, 17);
-    let (source, before) = (0, 4_294_967_295);
+    let (write, read) = (from, to);
+    let before = Fact::Before { from, to };
     let table = [
-        (Reason::Program, "program"),
-        (Reason::Source, "source"),
-        (Reason::Initial, "initial"),
-        (Reason::Joined { first, second }, "joined:4:17"),
-        (Reason::Hidden { first, second }, "hidden:4:17"),
+        (before, Rule::Joined, "0.3<31.1000000:joined"),
+        (before, Rule::AfterAll, "0.3<31.1000000:after-all"),
+        (before, Rule::BeforeAll, "0.3<31.1000000:before-all"),
+        (before, Rule::AfterSource, "0.3<31.1000000:after-source"),
         (
-            Reason::AfterSource { source, before },
-            "after-source:0:4294967295",
+            Fact::Sees { write, read },
+            Rule::Source,
+            "0.3~31.1000000:source",
         ),
         (
-            Reason::BeforeNext { source, before },
-            "before-next:0:4294967295",
+            Fact::SeesFirst { read },
+            Rule::Source,
+            "-~31.1000000:source",
+        ),
+        (
+            Fact::Hidden { write, read },
+            Rule::Hidden { by: to },
+            "0.3/31.1000000:hidden:31.1000000",
         ),
     ];
-    for (reason, word) in table {
-        let reply = cycle_of_one(rt.alloc(), reason)?;
-        let line = line_of(rt.alloc(), &reply)?;
-        let wanted = format!(in rt.alloc(); "? cycle 1 0.3<31.1000000:{word}\n")?;
-        assert_eq!(rt; line.as_slice(), wanted.as_bytes());
+    for (fact, rule, word) in table {
+        for (hints, more) in [
+            (&[][..], ""),
+            (&[4, 17, 4_294_967_295][..], ":4:17:4294967295"),
+        ] {
+            let reply = cycle_of_one(rt.alloc(), fact, rule, hints)?;
+            let line = line_of(rt.alloc(), &reply)?;
+            let wanted = format!(in rt.alloc(); "? cycle 1 {word}{more}\n")?;
+            assert_eq!(rt; line.as_slice(), wanted.as_bytes());
+        }
     }
     Ok(())
 }

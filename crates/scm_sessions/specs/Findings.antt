@@ -4,7 +4,7 @@ use Rattle.std.specs.Prelude.{ℕ, ◌≡◌, ◌+◌, List, [], ◌∷◌, leng
 use Rattle.std.specs.List.{list_any, zip}
 use Rattle.std.specs.Option.{option_map, option_or}
 use Rattle.scm_sequences.specs.declared.refusal.Refusal.{Refusal}
-use Rattle.scm_book.specs.Calls.{ReplyData, inconsistent, undecided, because, refused}
+use Rattle.scm_book.specs.Calls.{ReplyData, inconsistent, undecided, because, cycle, refused}
 use Rattle.scm_sessions.specs.declared.findings.Findings.{Findings}
 use Rattle.scm_sessions.specs.declared.findings.RefusedLine.{RefusedLine}
 use Rattle.scm_sessions.specs.Lines.{Line, lines_of}
@@ -28,6 +28,7 @@ refusal_in reply = None
 abbrev pub answers_inconsistent : ReplyData → Bool
 answers_inconsistent inconsistent = true
 answers_inconsistent (because situations) = true
+answers_inconsistent (cycle lines hints) = true
 answers_inconsistent reply = false
 
 abbrev pub answers_undecided : ReplyData → Bool

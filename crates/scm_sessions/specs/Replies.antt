@@ -4,10 +4,13 @@ use Rattle.scm_sequences.specs.declared.op.Op.{Op}
 use Rattle.scm_sequences.specs.declared.op.Op.TheVariants.{R, W, Rw}
 use Rattle.scm_sequences.specs.Refusals.{refusal_number, refusal_text}
 use Rattle.scm_frontier.specs.Situated.{Situated}
-use Rattle.scm_orders.specs.declared.edge.Place.{Place}
-use Rattle.scm_orders.specs.declared.edge.Edge.{Edge}
-use Rattle.scm_orders.specs.declared.edge.Reason.{Reason}
-use Rattle.scm_orders.specs.declared.edge.Reason.TheVariants.{Program, Source, Initial, Joined, Hidden, AfterSource, BeforeNext}
+use Rattle.scm_orders.specs.declared.place.Place.{Place}
+use Rattle.scm_orders.specs.declared.derivation.Fact.{Fact}
+use Rattle.scm_orders.specs.declared.derivation.Fact.TheVariants.{Before, Sees, SeesFirst, Hidden}
+use Rattle.scm_orders.specs.declared.derivation.Rule.{Rule}
+use Rattle.scm_orders.specs.declared.derivation.Rule.TheVariants.{Joined, Hidden as HiddenBy, Source, AfterAll, BeforeAll, AfterSource}
+use Rattle.scm_orders.specs.declared.derivation.Line.{Line}
+use Rattle.scm_orders.specs.Refuting.{hints_of}
 use Rattle.scm_book.specs.declared.reply.Shown.{Shown}
 use Rattle.scm_book.specs.Calls.{ReplyData, reply_data, done, marked, consistent, inconsistent, undecided, because, cycle, unknown, ops, listed, refused}
 use Rattle.scm_sessions.specs.declared.replies.Answer.{Answer}
@@ -51,22 +54,31 @@ situation_text s = codes " " ++ joined (map decimal s.counts) ++ codes "/" ++ jo
 abbrev pub place_text : Place → List ℕ
 place_text place = decimal place.process ++ codes "." ++ decimal place.at
 
--- the numbers of two earlier edges, from 0, each with a colon before it
-abbrev pub numbers_text : ℕ → ℕ → List ℕ
-numbers_text first second = codes ":" ++ decimal first ++ codes ":" ++ decimal second
+-- two operations, and between them what is said of them
+abbrev pub pair_text : Place → List ℕ → Place → List ℕ
+pair_text from sign to = place_text from ++ sign ++ place_text to
 
-abbrev pub reason_text : Reason → List ℕ
-reason_text Program = codes "program"
-reason_text Source = codes "source"
-reason_text Initial = codes "initial"
-reason_text (Joined first second) = codes "joined" ++ numbers_text first second
-reason_text (Hidden first second) = codes "hidden" ++ numbers_text first second
-reason_text (AfterSource source before) = codes "after-source" ++ numbers_text source before
-reason_text (BeforeNext source before) = codes "before-next" ++ numbers_text source before
+abbrev pub fact_text : Fact → List ℕ
+fact_text (Before from to) = pair_text from (codes "<") to
+fact_text (Sees write read) = pair_text write (codes "~") read
+fact_text (SeesFirst read) = codes "-~" ++ place_text read
+fact_text (Hidden write read) = pair_text write (codes "/") read
 
--- an edge, with a space before it: which operation stands before which, and the reason
-abbrev pub edge_text : Edge → List ℕ
-edge_text edge = codes " " ++ place_text edge.from ++ codes "<" ++ place_text edge.to ++ codes ":" ++ reason_text edge.reason
+abbrev pub rule_text : Rule → List ℕ
+rule_text Joined = codes "joined"
+rule_text (HiddenBy by) = codes "hidden:" ++ place_text by
+rule_text Source = codes "source"
+rule_text AfterAll = codes "after-all"
+rule_text BeforeAll = codes "before-all"
+rule_text AfterSource = codes "after-source"
+
+-- the number of an earlier line, with a colon before it
+abbrev pub hint_text : ℕ → List ℕ
+hint_text hint = codes ":" ++ decimal hint
+
+-- a line with its hints, which are among these, and a space before it: what it says, and why
+abbrev pub line_text : List ℕ → Line → List ℕ
+line_text hints line = codes " " ++ fact_text line.fact ++ codes ":" ++ rule_text line.rule ++ flat_map hint_text (hints_of hints line)
 
 -- a fixed value, with a space before it: the name of its cell, '=' and the value
 abbrev pub fixed_text : List ℕ × ℕ → List ℕ
@@ -86,7 +98,7 @@ reply_text inconsistent = codes "inconsistent"
 reply_text undecided = codes "undecided"
 reply_text (because situations) =
     codes "because " ++ decimal (length situations) ++ flat_map situation_text situations
-reply_text (cycle edges) = codes "cycle " ++ decimal (length edges) ++ flat_map edge_text edges
+reply_text (cycle lines hints) = codes "cycle " ++ decimal (length lines) ++ flat_map (line_text hints) lines
 reply_text unknown = codes "unknown"
 reply_text (ops operations) = codes "ops " ++ decimal (length operations) ++ flat_map shown_text operations
 reply_text (listed names) = codes "traces " ++ decimal (length names) ++ flat_map spaced_word names

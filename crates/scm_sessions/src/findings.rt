@@ -41,7 +41,10 @@ fn refusal_of(reply: &Reply) -> Option<Refusal>
 fn says_inconsistent(reply: &Reply) -> bool
     ensures { result ≡ answers_inconsistent (reply_data reply.now) }
 {
-    matches!(reply, Reply::Inconsistent | Reply::Because(_))
+    matches!(
+        reply,
+        Reply::Inconsistent | Reply::Because(_) | Reply::Cycle(_)
+    )
 }
 
 /// Whether a reply says that nothing is known.
@@ -94,8 +97,8 @@ impl Findings {
         self.refused
     }
 
-    /// The status that tells the worst: 4 where a line was refused, else 5 where a question was answered `inconsistent` or
-    /// `because`, else 6 where one was answered `undecided`, else 0.
+    /// The status that tells the worst: 4 where a line was refused, else 5 where a question was answered `inconsistent`,
+    /// `because` or `cycle`, else 6 where one was answered `undecided`, else 0.
     pub fn status(&self) -> u8
         ensures { result ≡ status_of self.now }
     {

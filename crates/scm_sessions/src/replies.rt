@@ -74,7 +74,7 @@ impl<W: Write> Port<W> {
             Reply::Inconsistent => self.put(b"inconsistent"),
             Reply::Undecided => self.put(b"undecided"),
             Reply::Because(situations) => self.put_refutation(situations),
-            Reply::Cycle(edges) => self.put_cycle(edges),
+            Reply::Cycle(derivation) => self.put_cycle(derivation),
             Reply::Unknown => self.put(b"unknown"),
             Reply::Ops(operations) => self.put_operations(operations),
             Reply::Traces(names) => self.put_traces(names),

@@ -7,5 +7,5 @@ pub mod Auditing
 pub mod Taking
 pub mod Moves
 mod Following
-mod Edges
+mod Lines
 mod Meeting

@@ -10,7 +10,7 @@ use scm_book::{Call, Decl, Entry, Reply, Shown};
 use scm_cells::{Name, Width};
 use scm_frontier::Situation;
 use scm_lowering::Access;
-use scm_orders::Edge;
+use scm_orders::{Derivation, Line};
 
 /// Whether they are the same declarations, in the same order.
 fn same_cells(one: &[Decl], other: &[Decl]) -> bool
@@ -47,11 +47,25 @@ fn same_situations(one: &[Situation], other: &[Situation]) -> bool
     one == other
 }
 
-/// Whether they are the same edges, in the same order.
-fn same_edges(one: &[Edge], other: &[Edge]) -> bool
+/// Whether they are the same lines, in the same order.
+fn same_lines(one: &[Line], other: &[Line]) -> bool
     ensures { IsTrue result ↔ (one.now ≡ other.now) }
 {
     one == other
+}
+
+/// Whether they are the same hints, in the same order.
+fn same_hints(one: &[u32], other: &[u32]) -> bool
+    ensures { IsTrue result ↔ (one.now ≡ other.now) }
+{
+    one == other
+}
+
+/// Whether the derivations are equal.
+fn same_derivation(one: &Derivation, other: &Derivation) -> bool
+    ensures { IsTrue result ↔ ((one.now.lines.items ≡ other.now.lines.items) × (one.now.hints.items ≡ other.now.hints.items)) }
+{
+    same_lines(&one.lines, &other.lines) && same_hints(&one.hints, &other.hints)
 }
 
 fn same_name(one: &Name, other: &Name) -> bool
@@ -163,7 +177,9 @@ pub fn same_reply(one: &Reply, other: &Reply) -> bool
         Reply::Because(situations) => {
             matches!(other, Reply::Because(s) if same_situations(situations, s))
         }
-        Reply::Cycle(edges) => matches!(other, Reply::Cycle(e) if same_edges(edges, e)),
+        Reply::Cycle(derivation) => {
+            matches!(other, Reply::Cycle(d) if same_derivation(derivation, d))
+        }
         Reply::Unknown => matches!(other, Reply::Unknown),
         Reply::Ops(operations) => matches!(other, Reply::Ops(o) if same_operations(operations, o)),
         Reply::Traces(names) => matches!(other, Reply::Traces(n) if same_names(names, n)),

@@ -1,7 +1,7 @@
-use Rattle.std.proofs.Common.{ℕ, ◌≡◌, ◌<◌, Some, take, slice_get}
-use Rattle.scm_orders.specs.declared.edge.Edge.{Edge}
-use Rattle.scm_orders.specs.Following.{Follows}
+use Rattle.std.proofs.Common.{ℕ, ◌≡◌, ◌<◌, Some, slice_get}
+use Rattle.scm_orders.specs.declared.derivation.Line.{Line}
+use Rattle.scm_orders.specs.Refuting.{LineFollows}
 use Rattle.scm_orders.proofs.refuting.all_follow.Given as goal
 
 abbrev pub invariant-loop-k : goal.invariant-loop-k
-invariant-loop-k l = (j : ℕ) (edge : Edge) → j < l.k → slice_get l.edges j ≡ Some edge → Follows l.trace (take j l.edges) edge
+invariant-loop-k l = (j : ℕ) → j < l.k → (line : Line) → slice_get l.lines j ≡ Some line → LineFollows l.trace l.lines l.hints j line

@@ -1,4 +1,4 @@
-use Rattle.std.proofs.Common.{◌≡◌, ◌∙◌, min, length, slice_index, sym, ap, arith}
+use Rattle.std.proofs.Common.{◌≡◌, ◌∙◌, min, length, slice_index, ap, arith}
 use Rattle.scm_sequences.specs.Sequences.{operations, cut_lists}
 use Rattle.scm_sequences.specs.SequenceLaws.{length-operations_cut}
 use Rattle.scm_sequences.specs.Traces.{Trace}

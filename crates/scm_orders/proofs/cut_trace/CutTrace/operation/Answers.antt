@@ -1,4 +1,4 @@
-use Rattle.std.proofs.Common.{◌≡◌, ◌∙◌, slice_index, sym, ap, arith}
+use Rattle.std.proofs.Common.{◌∙◌, sym, ap, arith}
 use Rattle.scm_sequences.specs.Sequences.{operation}
 use Rattle.scm_sequences.specs.SequenceLaws.{operation-cut_lists, operation-cut_lists_past}
 use Rattle.scm_sequences.specs.Traces.{Trace}

@@ -1,0 +1,69 @@
+//! How clocks rose.
+use std::alloc::Global;
+
+/// The most rises of a trace: one that has more gets no list.
+const MOST_RISES: u32 = 1 << 25;
+
+/// From this place on the clocks of a process have this count, by this step.
+#[derive(Clone, Copy)]
+struct Rise {
+    at: u32,
+    count: u32,
+    by: u32,
+}
+
+/// For each two processes the rises of how many of the one come before the operations of the other, by steps that lead into
+/// the latter, in the order in which they came.
+#[derive(Drop)]
+pub(crate) struct Rises {
+    procs: u32,
+    lists: Vec<Vec<Rise>>,
+    total: u32,
+}
+
+impl Rises {
+    pub(crate) fn new(alloc: Global, procs: u32) -> Option<Rises> {
+        let mut lists = Vec::new(alloc);
+        for _ in 0..procs.checked_mul(procs)? {
+            lists.push(Vec::new(alloc)).ok()?;
+        }
+        Some(Rises {
+            procs,
+            lists,
+            total: 0,
+        })
+    }
+
+    fn place(&self, owner: u32, process: u32) -> Option<usize> {
+        let place = owner.checked_mul(self.procs)?.checked_add(process)?;
+        Some(place as usize)
+    }
+
+    /// So many of a process come before this place of its owner from now on, by this step.
+    pub(crate) fn add(
+        &mut self,
+        spot: (u32, u32),
+        process: u32,
+        count: u32,
+        by: u32,
+    ) -> Option<()> {
+        let (owner, at) = spot;
+        let place = self.place(owner, process)?;
+        if self.total >= MOST_RISES {
+            return None;
+        }
+        self.total = self.total.saturating_add(1);
+        let list = self.lists.get_mut(place)?;
+        list.push(Rise { at, count, by }).ok()
+    }
+
+    /// The step by which so many of a process came before this place of its owner first.
+    pub(crate) fn first(&self, spot: (u32, u32), process: u32, count: u32) -> Option<u32> {
+        let (owner, at) = spot;
+        let list = self.lists.get(self.place(owner, process)?)?;
+        let rise = list
+            .iter()
+            .find(|rise| rise.at <= at && rise.count >= count)?;
+        Some(rise.by)
+    }
+}

@@ -1,0 +1,8 @@
+use Rattle.scm_sessions.proofs.Sent.{Sends-trans}
+use Rattle.scm_sessions.proofs.port.Port.put_rule.Goals as goal
+
+pub returns-in-Hidden-clause-bytes : goal.returns-in-Hidden-clause-bytes
+returns-in-Hidden-clause-bytes g c = rw c.in-Hidden.is (Sends-trans c.put-in-Hidden.ensures.bytes c.put_place.ensures.bytes)
+
+pub returns-in-AfterSource-clause-bytes : goal.returns-in-AfterSource-clause-bytes
+returns-in-AfterSource-clause-bytes g c = rw c.in-AfterSource.is c.put-in-AfterSource.ensures.bytes

@@ -1,0 +1,144 @@
+//! The text of short refutations.
+ghost use Rattle.std.specs.Prelude.{◌≡◌, flat_map};
+ghost use Rattle.scm_orders.specs.Refuting.{hints_of as hints_in};
+ghost use Rattle.scm_book.specs.Calls.{cycle};
+ghost use Rattle.scm_sessions.specs.Ports.{inner_of, has_failed, reads_of, Sends};
+ghost use Rattle.scm_sessions.specs.Replies.{place_text, pair_text, fact_text, rule_text, hint_text, line_text, reply_text};
+
+use crate::port::Port;
+use scm_orders::{Derivation, Fact, Line, Place, Rule};
+use std::io::Write;
+
+/// The hints of a line, among those of its derivation: those that are there.
+fn hints_of(hints: &[u32], line: Line) -> &[u32]
+    ensures { result.now ≡ hints_in hints.now line }
+{
+    let start = line.first as usize;
+    let end = start + line.count as usize;
+    &hints[start.min(hints.len())..end.min(hints.len())]
+}
+
+impl<W: Write> Port<W> {
+    /// Puts where an operation stands.
+    fn put_place(&mut self, place: Place)
+        ensures bytes { Sends (W.contents (inner_of self.old)) (has_failed self.old)
+            (W.contents (inner_of self.new)) (has_failed self.new) (place_text place) }
+        ensures reads { reads_of self.new ≡ reads_of self.old }
+    {
+        self.put_number(u64::from(place.process));
+        self.put(b".");
+        self.put_number(u64::from(place.at));
+    }
+
+    /// Puts two operations, and what is said of them between.
+    fn put_pair(&mut self, from: Place, sign: &[u8], to: Place)
+        ensures bytes { Sends (W.contents (inner_of self.old)) (has_failed self.old)
+            (W.contents (inner_of self.new)) (has_failed self.new) (pair_text from sign.now to) }
+        ensures reads { reads_of self.new ≡ reads_of self.old }
+    {
+        self.put_place(from);
+        self.put(sign);
+        self.put_place(to);
+    }
+
+    /// Puts what a line says.
+    fn put_fact(&mut self, fact: Fact)
+        ensures bytes { Sends (W.contents (inner_of self.old)) (has_failed self.old)
+            (W.contents (inner_of self.new)) (has_failed self.new) (fact_text fact) }
+        ensures reads { reads_of self.new ≡ reads_of self.old }
+    {
+        match fact {
+            Fact::Before { from, to } => self.put_pair(from, b"<", to),
+            Fact::Sees { write, read } => self.put_pair(write, b"~", read),
+            Fact::SeesFirst { read } => {
+                self.put(b"-~");
+                self.put_place(read);
+            }
+            Fact::Hidden { write, read } => self.put_pair(write, b"/", read),
+        }
+    }
+
+    /// Puts why it follows.
+    fn put_rule(&mut self, rule: Rule)
+        ensures bytes { Sends (W.contents (inner_of self.old)) (has_failed self.old)
+            (W.contents (inner_of self.new)) (has_failed self.new) (rule_text rule) }
+        ensures reads { reads_of self.new ≡ reads_of self.old }
+    {
+        match rule {
+            Rule::Joined => self.put(b"joined"),
+            Rule::Hidden { by } => {
+                self.put(b"hidden:");
+                self.put_place(by);
+            }
+            Rule::Source => self.put(b"source"),
+            Rule::AfterAll => self.put(b"after-all"),
+            Rule::BeforeAll => self.put(b"before-all"),
+            Rule::AfterSource => self.put(b"after-source"),
+        }
+    }
+
+    /// Puts a hint, with a colon before it.
+    fn put_hint(&mut self, hint: u32)
+        ensures bytes { Sends (W.contents (inner_of self.old)) (has_failed self.old)
+            (W.contents (inner_of self.new)) (has_failed self.new) (hint_text hint) }
+        ensures reads { reads_of self.new ≡ reads_of self.old }
+    {
+        self.put(b":");
+        self.put_number(u64::from(hint));
+    }
+
+    /// Puts each of these hints.
+    fn put_hints(&mut self, hints: &[u32])
+        ensures bytes { Sends (W.contents (inner_of self.old)) (has_failed self.old)
+            (W.contents (inner_of self.new)) (has_failed self.new) (flat_map hint_text hints.now) }
+        ensures reads { reads_of self.new ≡ reads_of self.old }
+    {
+        for hint in hints {
+            self.put_hint(*hint);
+        }
+    }
+
+    /// Puts a line with its hints, which are among these, and a space before it.
+    fn put_line(&mut self, line: Line, hints: &[u32])
+        ensures bytes { Sends (W.contents (inner_of self.old)) (has_failed self.old)
+            (W.contents (inner_of self.new)) (has_failed self.new) (line_text hints.now line) }
+        ensures reads { reads_of self.new ≡ reads_of self.old }
+    {
+        self.put(b" ");
+        self.put_fact(line.fact);
+        self.put(b":");
+        self.put_rule(line.rule);
+        self.put_hints(hints_of(hints, line));
+    }
+
+    /// Puts each of these lines.
+    fn put_lines(&mut self, lines: &[Line], hints: &[u32])
+        ensures bytes { Sends (W.contents (inner_of self.old)) (has_failed self.old)
+            (W.contents (inner_of self.new)) (has_failed self.new) (flat_map (line_text hints.now) lines.now) }
+        ensures reads { reads_of self.new ≡ reads_of self.old }
+    {
+        for line in lines {
+            self.put_line(*line, hints);
+        }
+    }
+
+    /// Puts the reply that refutes a trace by these lines, with these hints.
+    fn put_refuting(&mut self, lines: &[Line], hints: &[u32])
+        ensures bytes { Sends (W.contents (inner_of self.old)) (has_failed self.old)
+            (W.contents (inner_of self.new)) (has_failed self.new) (reply_text (cycle lines.now hints.now)) }
+        ensures reads { reads_of self.new ≡ reads_of self.old }
+    {
+        self.put(b"cycle ");
+        self.put_number(lines.len() as u64);
+        self.put_lines(lines, hints);
+    }
+
+    /// Puts the reply that refutes a trace shortly.
+    pub(crate) fn put_cycle(&mut self, derivation: &Derivation)
+        ensures bytes { Sends (W.contents (inner_of self.old)) (has_failed self.old)
+            (W.contents (inner_of self.new)) (has_failed self.new) (reply_text (cycle derivation.now.lines.items derivation.now.hints.items)) }
+        ensures reads { reads_of self.new ≡ reads_of self.old }
+    {
+        self.put_refuting(&derivation.lines, &derivation.hints);
+    }
+}

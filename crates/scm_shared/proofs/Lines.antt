@@ -1,0 +1,37 @@
+-- Whether `==` of lines says that they are the same.
+use Rattle.std.proofs.Common.{rules, ◌≡◌, Bool, ◌&&◌, ◌==◌}
+use Rattle.std.specs.Bool.{Decides}
+use Rattle.scm_orders.specs.declared.place.Place.{Place}
+use Rattle.scm_orders.specs.declared.derivation.Fact.{Fact}
+use Rattle.scm_orders.specs.declared.derivation.Fact.TheVariants.{Before, Sees, SeesFirst, Hidden}
+use Rattle.scm_orders.specs.declared.derivation.Rule.{Rule}
+use Rattle.scm_orders.specs.declared.derivation.Rule.TheVariants.{Joined, Hidden as HiddenBy, Source, AfterAll, BeforeAll, AfterSource}
+use Rattle.scm_orders.specs.declared.derivation.Line.{Line}
+use Rattle.scm_orders.specs.contracts.place.PlacePartialEq.TheImpl as places
+use Rattle.scm_orders.specs.contracts.derivation.FactPartialEq.TheImpl as facts
+use Rattle.scm_orders.specs.contracts.derivation.RulePartialEq.TheImpl as rules_of
+use Rattle.scm_orders.specs.contracts.derivation.LinePartialEq.TheImpl as lines
+
+place_eq-Decides : (a b : Place) → Decides (places.ghosts.eq a b) (a ≡ b)
+place_eq-Decides a b = search rules
+
+fact_eq-Decides : (a b : Fact) → Decides (facts.ghosts.eq a b) (a ≡ b)
+fact_eq-Decides (Before from to) b = search (rules, place_eq-Decides)
+fact_eq-Decides (Sees write read) b = search (rules, place_eq-Decides)
+fact_eq-Decides (SeesFirst read) b = search (rules, place_eq-Decides)
+fact_eq-Decides (Hidden write read) b = search (rules, place_eq-Decides)
+
+rule_eq-Decides : (a b : Rule) → Decides (rules_of.ghosts.eq a b) (a ≡ b)
+rule_eq-Decides Joined b = search rules
+rule_eq-Decides (HiddenBy by) b = search (rules, place_eq-Decides)
+rule_eq-Decides Source b = search rules
+rule_eq-Decides AfterAll b = search rules
+rule_eq-Decides BeforeAll b = search rules
+rule_eq-Decides AfterSource b = search rules
+
+line_Decides : (fact rule : Bool) (a b : Line) → Decides fact (a.fact ≡ b.fact) → Decides rule (a.rule ≡ b.rule)
+    → Decides (fact && (rule && (a.first == b.first && a.count == b.count))) (a ≡ b)
+line_Decides fact rule a b facts_are rules_are = search rules
+
+pub line_eq-Decides : (a b : Line) → Decides (lines.ghosts.eq a b) (a ≡ b)
+line_eq-Decides a b = line_Decides _ _ a b (fact_eq-Decides a.fact b.fact) (rule_eq-Decides a.rule b.rule)
