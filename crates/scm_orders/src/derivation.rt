@@ -1,6 +1,7 @@
 //! Derivations: short refutations, line by line.
 ghost use Rattle.std.specs.Prelude.{◌≡◌};
 ghost use Rattle.scm_orders.specs.Facts.{order_of};
+ghost use Rattle.scm_orders.specs.Refuting.{hints_of};
 
 use crate::Place;
 
@@ -47,6 +48,17 @@ pub struct Line {
     pub rule: Rule,
     pub first: u32,
     pub count: u32,
+}
+
+impl Line {
+    /// The hints of this line, among those of its derivation: those that are there.
+    pub fn hints_in(self, hints: &[u32]) -> &[u32]
+        ensures { result.now ≡ hints_of hints.now self }
+    {
+        let start = self.first as usize;
+        let end = start + self.count as usize;
+        &hints[start.min(hints.len())..end.min(hints.len())]
+    }
 }
 
 /// Lines, each of which is to follow from the trace and from earlier lines, and the hints of all of them.

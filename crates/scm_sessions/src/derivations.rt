@@ -1,6 +1,5 @@
 //! The text of short refutations.
 ghost use Rattle.std.specs.Prelude.{◌≡◌, flat_map};
-ghost use Rattle.scm_orders.specs.Refuting.{hints_of as hints_in};
 ghost use Rattle.scm_book.specs.Calls.{cycle};
 ghost use Rattle.scm_sessions.specs.Ports.{inner_of, has_failed, reads_of, Sends};
 ghost use Rattle.scm_sessions.specs.Replies.{place_text, pair_text, fact_text, rule_text, hint_text, line_text, reply_text};
@@ -8,15 +7,6 @@ ghost use Rattle.scm_sessions.specs.Replies.{place_text, pair_text, fact_text, r
 use crate::port::Port;
 use scm_orders::{Derivation, Fact, Line, Place, Rule};
 use std::io::Write;
-
-/// The hints of a line, among those of its derivation: those that are there.
-fn hints_of(hints: &[u32], line: Line) -> &[u32]
-    ensures { result.now ≡ hints_in hints.now line }
-{
-    let start = line.first as usize;
-    let end = start + line.count as usize;
-    &hints[start.min(hints.len())..end.min(hints.len())]
-}
 
 impl<W: Write> Port<W> {
     /// Puts where an operation stands.
@@ -108,7 +98,7 @@ impl<W: Write> Port<W> {
         self.put_fact(line.fact);
         self.put(b":");
         self.put_rule(line.rule);
-        self.put_hints(hints_of(hints, line));
+        self.put_hints(line.hints_in(hints));
     }
 
     /// Puts each of these lines.
