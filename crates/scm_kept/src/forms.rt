@@ -226,13 +226,19 @@ fn read_on(rt: &impl Abort, alloc: Global, is_packed: bool) {
     assert!(rt; is_right_at_the_end(rt, alloc, &mut asked));
     asked.report_all(rt, "0Wx5 1Ux5>6 0Ro7 1Ux5>6 0Wy6 1Ux5>6");
     for i in 0..20 {
-        asked.report(rt, 15, if i < 10 { read(2, 9) } else { read(23, i) });
-        if is_packed {
-            asked.pack(rt, alloc);
-        }
-        assert!(rt; is_right_at_the_end(rt, alloc, &mut asked));
-        assert!(rt; narrowest(rt, alloc, &asked) == Form::Short);
+        read_once(rt, alloc, &mut asked, i, is_packed);
     }
+}
+
+/// Read `i` of these.
+fn read_once(rt: &impl Abort, alloc: Global, asked: &mut Asked, i: u8, is_packed: bool) {
+    assert!(rt; asked.sequences().procs() == 16);
+    asked.report(rt, 15, if i < 10 { read(2, 9) } else { read(23, u64::from(i)) });
+    if is_packed {
+        asked.pack(rt, alloc);
+    }
+    assert!(rt; is_right_at_the_end(rt, alloc, asked));
+    assert!(rt; narrowest(rt, alloc, asked) == Form::Short);
 }
 
 #[test]
@@ -267,27 +273,45 @@ fn store(rt: &impl Abort, asked: &mut Asked, course: Course, i: u8) {
     asked.report(rt, course.procs - 1, write(1, u64::from(i) % course.values));
 }
 
-/// By how many steps more a set is asked after 40 stores that packs its words anew, or opens a gap, where it meets a situation
-/// without a word, than one whose words have room for all of the trace before each question: one for each time.
+/// By how many steps more a set is asked that packs its words anew, or opens a gap, where it meets a situation without a word,
+/// than one whose words have room for all of the trace before each question: at most one.
+fn steps_more_at_once(
+    rt: &impl Abort,
+    alloc: Global,
+    roomy: &mut Asked,
+    lacking: &mut Asked,
+) -> u64 {
+    roomy.pack(rt, alloc);
+    let (wanted, least) = roomy.ask_at_the_end(rt, 100);
+    let (settled, steps) = lacking.ask_at_the_end(rt, 100);
+    assert!(rt; settled == wanted && least <= steps && steps - least <= 1);
+    assert!(rt; is_right_at_the_end(rt, alloc, lacking));
+    steps - least
+}
+
+/// The same of both sets after 40 stores.
+fn steps_more_in_all(
+    rt: &impl Abort,
+    alloc: Global,
+    course: Course,
+    roomy: &mut Asked,
+    lacking: &mut Asked,
+) -> u64 {
+    let mut more = 0u64;
+    for i in 0..40u8 {
+        store(rt, roomy, course, i);
+        store(rt, lacking, course, i);
+        if course.at_once > 0 && i % course.at_once == 0 {
+            more = more.saturating_add(steps_more_at_once(rt, alloc, roomy, lacking));
+        }
+    }
+    more
+}
+
 fn steps_more(rt: &impl Abort, alloc: Global, course: Course) -> u64 {
     let mut roomy = begun(rt, alloc, course);
     let mut lacking = begun(rt, alloc, course);
-    let mut more = 0u64;
-    for i in 0..40u8 {
-        store(rt, &mut roomy, course, i);
-        store(rt, &mut lacking, course, i);
-        if course.at_once == 0 || i % course.at_once > 0 {
-            continue;
-        }
-        roomy.pack(rt, alloc);
-        let lengths = lacking.sequences().lengths();
-        let (wanted, least) = roomy.ask_under(rt, &lengths, 100);
-        let (settled, steps) = lacking.ask_under(rt, &lengths, 100);
-        assert!(rt; settled == wanted && least <= steps && steps - least <= 1);
-        assert!(rt; is_right_at_the_end(rt, alloc, &mut lacking));
-        more = more.saturating_add(steps - least);
-    }
-    more
+    steps_more_in_all(rt, alloc, course, &mut roomy, &mut lacking)
 }
 
 /// The count alone outgrows its field, and gets gaps: four times it would be packed anew.
@@ -321,26 +345,37 @@ fn words_are_packed_anew_where_a_situation_has_none(rt: HostRuntime) {
     }
 }
 
+/// Swap `k`, by one of the processes but the first.
+fn swap_in_turn(rt: &impl Abort, alloc: Global, asked: &mut Asked, k: u8) {
+    let procs = asked.sequences().procs();
+    assert!(rt; 2 <= procs);
+    let value = u64::from(k);
+    asked.report(
+        rt,
+        1 + usize::from(k) % (procs - 1),
+        swap(1, value, value + 1),
+    );
+    if k % 10 == 0 {
+        assert!(rt; is_right_at_the_end(rt, alloc, asked));
+    }
+}
+
+fn swap_in_turns(rt: &impl Abort, alloc: Global, asked: &mut Asked, [from, to]: [Form; 2]) {
+    asked.report(rt, 0, read(2, 9));
+    assert!(rt; is_right_at_the_end(rt, alloc, asked));
+    assert!(rt; narrowest(rt, alloc, asked) == from);
+    for k in 0..120u8 {
+        swap_in_turn(rt, alloc, asked, k);
+    }
+    assert!(rt; narrowest(rt, alloc, asked) == to);
+}
+
 /// One process can't begin, and the others change one cell by turns: a situation each, until words have no room for another
 /// one, and the search goes on in longer ones.
-fn take_turns(rt: &impl Abort, alloc: Global, procs: usize, n: u8, [from, to]: [Form; 2]) {
+fn take_turns(rt: &impl Abort, alloc: Global, procs: usize, n: u8, forms: [Form; 2]) {
     assert!(rt; 2 <= procs && procs <= MOST_PROCESSES);
     let mut asked = Asked::new(rt, alloc, &cells(rt, alloc, n), procs);
-    asked.report(rt, 0, read(2, 9));
-    assert!(rt; is_right_at_the_end(rt, alloc, &mut asked));
-    assert!(rt; narrowest(rt, alloc, &asked) == from);
-    for k in 0..120u8 {
-        let value = u64::from(k);
-        asked.report(
-            rt,
-            1 + usize::from(k) % (procs - 1),
-            swap(1, value, value + 1),
-        );
-        if k % 10 == 0 {
-            assert!(rt; is_right_at_the_end(rt, alloc, &mut asked));
-        }
-    }
-    assert!(rt; narrowest(rt, alloc, &asked) == to);
+    swap_in_turns(rt, alloc, &mut asked, forms);
 }
 
 #[test]
@@ -371,17 +406,31 @@ const FILLED: [(u8, u8, u8, Form); 9] = [
     (60, 64, 32, Form::Wide),
 ];
 
+/// The words of a trace with so much ballast and so many reads have this form, and its questions are right.
+fn fill(rt: &impl Abort, alloc: Global, asked: &mut Asked, times: u8, more: u8, wanted: Form) {
+    add_ballast(rt, asked, times);
+    add_pair(rt, asked, more);
+    assert!(rt; narrowest(rt, alloc, asked) == wanted);
+    asked.pack(rt, alloc);
+    assert!(rt; is_right_at_the_end(rt, alloc, asked));
+}
+
+/// So is one about its first two processes alone.
+fn is_right_of_two(rt: &impl Abort, alloc: Global, asked: &mut Asked, more: u8) -> bool {
+    let lengths = lengths_of(rt, alloc, MOST_PROCESSES, [1, u32::from(more)]);
+    is_right(rt, alloc, asked, &lengths)
+}
+
+fn is_filled(rt: &impl Abort, alloc: Global, (n, times, more, wanted): (u8, u8, u8, Form)) -> bool {
+    let mut asked = Asked::new(rt, alloc, &cells(rt, alloc, n), MOST_PROCESSES);
+    fill(rt, alloc, &mut asked, times, more, wanted);
+    is_right_of_two(rt, alloc, &mut asked, more)
+}
+
 #[test]
 fn words_are_full_to_the_last_bit(rt: HostRuntime) {
-    for (n, times, more, wanted) in FILLED {
-        let mut asked = Asked::new(&rt, rt.alloc(), &cells(&rt, rt.alloc(), n), MOST_PROCESSES);
-        add_ballast(&rt, &mut asked, times);
-        add_pair(&rt, &mut asked, more);
-        assert!(rt; narrowest(&rt, rt.alloc(), &asked) == wanted);
-        asked.pack(&rt, rt.alloc());
-        assert!(rt; is_right_at_the_end(&rt, rt.alloc(), &mut asked));
-        let lengths = lengths_of(&rt, rt.alloc(), MOST_PROCESSES, [1, u32::from(more)]);
-        assert!(rt; is_right(&rt, rt.alloc(), &mut asked, &lengths));
+    for row in FILLED {
+        assert!(rt; is_filled(&rt, rt.alloc(), row));
     }
 }
 
@@ -431,14 +480,19 @@ fn report_next(rt: &impl Abort, alloc: Global, asked: &mut Asked, numbers: &mut 
     }
 }
 
+/// Reports nine operations, and asks at the end.
+fn report_all_next(rt: &impl Abort, alloc: Global, asked: &mut Asked, numbers: &mut Numbers) {
+    for _ in 0..9 {
+        report_next(rt, alloc, asked, numbers);
+    }
+    assert!(rt; is_right_at_the_end(rt, alloc, asked));
+}
+
 #[test]
 fn generated_traces_are_judged_as_by_a_plain_list(rt: HostRuntime) {
     let mut numbers = Numbers::new(1);
     for _ in 0..150 {
         let mut asked = Asked::new(&rt, rt.alloc(), &cells(&rt, rt.alloc(), 3), 3);
-        for _ in 0..9 {
-            report_next(&rt, rt.alloc(), &mut asked, &mut numbers);
-        }
-        assert!(rt; is_right_at_the_end(&rt, rt.alloc(), &mut asked));
+        report_all_next(&rt, rt.alloc(), &mut asked, &mut numbers);
     }
 }
