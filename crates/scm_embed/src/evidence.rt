@@ -1,0 +1,110 @@
+//! The evidence of a reply, number by number: a schedule and its fixed values, or a refutation of either kind.
+ghost use Rattle.std.specs.Prelude.{◌≡◌, ◌∷◌, [], length, map, slice_get, option_map, option_and_then};
+ghost use Rattle.scm_book.specs.Calls.{reply_data};
+ghost use Rattle.scm_embed.specs.Evidence.{rows_of, piece_at, process_row, fixed_row, counts_row, contents_row, line_row};
+
+use crate::lines::line_numbers;
+use scm_book::Reply;
+use scm_cells::Name;
+use scm_frontier::Situation;
+use scm_orders::Edge;
+
+/// What stands in a field of a row.
+#[derive(Clone, Copy, Debug, PartialEq, Eq)]
+pub(crate) enum Piece {
+    Number(u64),
+    /// A cell, by its name.
+    Cell(Name),
+    /// The contents of a cell that are open.
+    Open,
+}
+
+/// How many rows this part of a reply has, `None` where it has no such part: 0 the processes of a schedule, 1 its fixed values,
+/// 2 the counts and 3 the contents of situations, 4 the lines of a short refutation, 5 the number of a mark.
+pub(crate) fn count_rows(reply: &Reply, part: u32) -> Option<usize>
+    ensures { result ≡ option_map length (rows_of (reply_data reply.now) part) }
+{
+    match (reply, part) {
+        (Reply::Consistent { schedule, .. }, 0) => Some(schedule.len()),
+        (Reply::Consistent { fixed, .. }, 1) => Some(fixed.len()),
+        (Reply::Because(situations), 2 | 3) => Some(situations.len()),
+        (Reply::Cycle(edges), 4) => Some(edges.len()),
+        (Reply::MarkSet(_), 5) => Some(1),
+        _ => None,
+    }
+}
+
+/// Of a row that is one number.
+fn number_alone(number: u64, field: usize) -> Option<Piece>
+    ensures { result ≡ slice_get (Piece.Number number ∷ []) field }
+{
+    if field == 0 {
+        Some(Piece::Number(number))
+    } else {
+        None
+    }
+}
+
+fn process_piece(schedule: &[u8], row: usize, field: usize) -> Option<Piece>
+    ensures { result ≡ piece_at (map process_row schedule.now) row field }
+{
+    let process = schedule.get(row)?;
+    number_alone(u64::from(*process), field)
+}
+
+fn fixed_piece(fixed: &[(Name, u64)], row: usize, field: usize) -> Option<Piece>
+    ensures { result ≡ piece_at (map fixed_row fixed.now) row field }
+{
+    let (cell, value) = *fixed.get(row)?;
+    match field {
+        0 => Some(Piece::Cell(cell)),
+        1 => Some(Piece::Number(value)),
+        _ => None,
+    }
+}
+
+fn count_piece(situations: &[Situation], row: usize, process: usize) -> Option<Piece>
+    ensures { result ≡ piece_at (map counts_row situations.now) row process }
+{
+    let situation = situations.get(row)?;
+    if process >= situation.procs() {
+        return None;
+    }
+    Some(Piece::Number(u64::from(situation.count(process))))
+}
+
+fn content_piece(situations: &[Situation], row: usize, cell: usize) -> Option<Piece>
+    ensures { result ≡ piece_at (map contents_row situations.now) row cell }
+{
+    let situation = situations.get(row)?;
+    if cell >= situation.cells() {
+        return None;
+    }
+    Some(match situation.value(cell) {
+        Some(value) => Piece::Number(value),
+        None => Piece::Open,
+    })
+}
+
+fn line_piece(edges: &[Edge], row: usize, field: usize) -> Option<Piece>
+    ensures { result ≡ piece_at (map line_row edges.now) row field }
+{
+    let numbers = line_numbers(edges.get(row)?);
+    let number = numbers.get(field)?;
+    Some(Piece::Number(*number))
+}
+
+/// What stands in this field of a row of a part. `None` where there is none.
+pub(crate) fn read_piece(reply: &Reply, part: u32, row: usize, field: usize) -> Option<Piece>
+    ensures { result ≡ option_and_then (λ rows. piece_at rows row field) (rows_of (reply_data reply.now) part) }
+{
+    match (reply, part) {
+        (Reply::Consistent { schedule, .. }, 0) => process_piece(schedule, row, field),
+        (Reply::Consistent { fixed, .. }, 1) => fixed_piece(fixed, row, field),
+        (Reply::Because(situations), 2) => count_piece(situations, row, field),
+        (Reply::Because(situations), 3) => content_piece(situations, row, field),
+        (Reply::Cycle(edges), 4) => line_piece(edges, row, field),
+        (Reply::MarkSet(mark), 5) if row == 0 => number_alone(*mark, field),
+        _ => None,
+    }
+}
