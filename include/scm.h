@@ -143,8 +143,8 @@ enum {
   SCM_FIXED,    /* of SCM_CONSISTENT, a row for each unset cell that the schedule fixes: 0 the number of the cell's name, 1 its value */
   SCM_COUNTS,   /* of SCM_BECAUSE, a row for each situation: p how many operations of process p were executed */
   SCM_CONTENTS, /* of SCM_BECAUSE, a row for each situation: c what cell c holds, or SCM_STILL_OPEN; in the order of declaration */
-  SCM_LINES,    /* of SCM_CYCLE_FOUND, a row for each line: see below */
   SCM_MARKED,   /* of SCM_MARK_SET, one row: 0 the mark */
+  SCM_LINES,    /* of SCM_CYCLE_FOUND, a row for each line: see below */
 };
 
 /* Fields of a line: SCM_FROM stands before SCM_TO in every legal schedule, operation _AT of process _PROCESS, by the reason, which

@@ -25,7 +25,7 @@ const CLAIM: u32 = 0;
 const ASK: u32 = 5;
 const CYCLE: u32 = 9;
 const CYCLE_FOUND: u32 = 21;
-const LINES: u32 = 4;
+const LINES: u32 = 5;
 
 unsafe extern "C" {
     fn scm_make(monitor: *mut Handle) -> u32;

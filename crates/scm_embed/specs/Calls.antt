@@ -75,12 +75,13 @@ RefusesMemory before session code after =
     (after.sessions ≡ before.sessions) × HoldsReply after session (refused NoMemory) × (code ≡ reply_code (refused NoMemory))
     × (after.names ≡ before.names)
 
--- the session of one number opens a trace that has the name of the other one, with the cells that are declared
+-- the session of one number opens a trace that has the name of the other one, with the cells that are declared; or memory is
+-- refused for these
 abbrev pub OpensAt : State → ℕ → ℕ → ℕ → ℕ → List Cell → ℕ → State → Type 0
 OpensAt before session trace procs budget cells code after =
     MatchOption (name_at before session) (IsBadNumber before code after)
     (λ s. MatchOption (name_at before trace) (IsBadNumber before code after)
-    (λ t. MatchOption (declarations_of before.names.items cells) (IsBadNumber before code after ⊎ RefusesMemory before s code after)
+    (λ t. RefusesMemory before s code after ⊎ MatchOption (declarations_of before.names.items cells) (IsBadNumber before code after)
     (λ decls. MakesCall before s (opens t procs budget decls) code after)))
 
 -- the session of one number calls about the trace of the other one

@@ -9,9 +9,9 @@ use Rattle.scm_sessions.specs.declared.replies.Answer.{Answer}
 use Rattle.scm_embed.specs.declared.evidence.Piece.{Piece}
 use Rattle.scm_embed.specs.declared.evidence.Piece.TheVariants.{Number, Cell, Open}
 
--- a step of a schedule: its process
-abbrev pub process_row : ℕ → List Piece
-process_row process = Number process ∷ []
+-- a number alone, as the process of a step
+abbrev pub number_row : ℕ → List Piece
+number_row number = Number number ∷ []
 
 -- a fixed value: its cell, and the value
 abbrev pub fixed_row : List ℕ × ℕ → List Piece
@@ -51,15 +51,15 @@ line_row edge = map Number (line_numbers edge)
 -- the rows of this part of a reply, None where it has no such part
 abbrev pub rows_of : ReplyData → ℕ → Option (List (List Piece))
 rows_of (consistent schedule fixed) part =
-    if part == 0 then Some (map process_row schedule)
+    if part == 0 then Some (map number_row schedule)
     else if part == 1 then Some (map fixed_row fixed)
     else None
 rows_of (because situations) part =
     if part == 2 then Some (map counts_row situations)
     else if part == 3 then Some (map contents_row situations)
     else None
-rows_of (cycle edges) part = if part == 4 then Some (map line_row edges) else None
-rows_of (marked mark) part = if part == 5 then Some ((Number mark ∷ []) ∷ []) else None
+rows_of (marked mark) part = if part == 4 then Some (number_row mark ∷ []) else None
+rows_of (cycle edges) part = if part == 5 then Some (map line_row edges) else None
 rows_of done part = None
 rows_of inconsistent part = None
 rows_of undecided part = None

@@ -1,5 +1,5 @@
 -- What C reads of a monitor: numbers of names, and the evidence of the last reply.
-use Rattle.std.specs.Prelude.{ℕ, ◌≡◌, List, length, Option, None, Some, MatchOption, MatchBool}
+use Rattle.std.specs.Prelude.{ℕ, ◌≡◌, List, length, MatchOption, MatchBool, option_map}
 use Rattle.scm_cells.specs.Names.{is_name}
 use Rattle.scm_embed.specs.declared.codes.TheConstants.{DONE, BAD_NUMBER, NO_EVIDENCE, STILL_OPEN}
 use Rattle.scm_embed.specs.declared.evidence.Piece.{Piece}
@@ -24,7 +24,7 @@ NamesAt before word code number after =
 -- how many rows a part of the last reply has; NO_EVIDENCE just where it has no such part
 abbrev pub CountsAt : State → ℕ → ℕ → ℕ → Type 0
 CountsAt state part code count =
-    MatchOption (evidence_of state.answer part) (code ≡ NO_EVIDENCE) (λ rows. (code ≡ DONE) × (count ≡ length rows))
+    MatchOption (option_map length (evidence_of state.answer part)) (code ≡ NO_EVIDENCE) (λ rows. (code ≡ DONE) × (count ≡ rows))
 
 -- a number as it is; a cell by the number of its name, which it gets where it has none; STILL_OPEN for contents that are open
 abbrev pub TellsPiece : State → Piece → ℕ → ℕ → State → Type 0
@@ -36,6 +36,5 @@ TellsPiece before (Cell name) code number after =
 -- what stands in a field of a row of a part of the last reply; BAD_NUMBER just where there is no such row or field of the part
 abbrev pub ReadsAt : State → ℕ → ℕ → ℕ → ℕ → ℕ → State → Type 0
 ReadsAt before part row field code number after =
-    MatchOption (evidence_of before.answer part) ((code ≡ NO_EVIDENCE) × (after ≡ before))
-    (λ rows. MatchOption (piece_at rows row field) (IsBadNumber before code after)
-    (λ piece. TellsPiece before piece code number after))
+    MatchOption (option_map (λ rows. piece_at rows row field) (evidence_of before.answer part)) ((code ≡ NO_EVIDENCE) × (after ≡ before))
+    (λ found. MatchOption found (IsBadNumber before code after) (λ piece. TellsPiece before piece code number after))

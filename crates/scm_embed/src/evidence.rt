@@ -1,9 +1,9 @@
 //! The evidence of a reply, number by number: a schedule and its fixed values, or a refutation of either kind.
-ghost use Rattle.std.specs.Prelude.{◌≡◌, ◌∷◌, [], length, map, slice_get, option_map, option_and_then};
+ghost use Rattle.std.specs.Prelude.{◌≡◌, ◌∷◌, [], length, map, slice_get, option_map};
 ghost use Rattle.scm_book.specs.Calls.{reply_data};
-ghost use Rattle.scm_embed.specs.Evidence.{rows_of, piece_at, process_row, fixed_row, counts_row, contents_row, line_row};
+ghost use Rattle.scm_embed.specs.Evidence.{rows_of, piece_at, number_row, fixed_row, counts_row, contents_row, line_row};
 
-use crate::lines::line_numbers;
+use crate::lines::line_field;
 use scm_book::Reply;
 use scm_cells::Name;
 use scm_frontier::Situation;
@@ -20,7 +20,7 @@ pub(crate) enum Piece {
 }
 
 /// How many rows this part of a reply has, `None` where it has no such part: 0 the processes of a schedule, 1 its fixed values,
-/// 2 the counts and 3 the contents of situations, 4 the lines of a short refutation, 5 the number of a mark.
+/// 2 the counts and 3 the contents of situations, 4 the number of a mark, 5 the lines of a short refutation.
 pub(crate) fn count_rows(reply: &Reply, part: u32) -> Option<usize>
     ensures { result ≡ option_map length (rows_of (reply_data reply.now) part) }
 {
@@ -28,8 +28,8 @@ pub(crate) fn count_rows(reply: &Reply, part: u32) -> Option<usize>
         (Reply::Consistent { schedule, .. }, 0) => Some(schedule.len()),
         (Reply::Consistent { fixed, .. }, 1) => Some(fixed.len()),
         (Reply::Because(situations), 2 | 3) => Some(situations.len()),
-        (Reply::Cycle(edges), 4) => Some(edges.len()),
-        (Reply::MarkSet(_), 5) => Some(1),
+        (Reply::MarkSet(_), 4) => Some(1),
+        (Reply::Cycle(edges), 5) => Some(edges.len()),
         _ => None,
     }
 }
@@ -46,7 +46,7 @@ fn number_alone(number: u64, field: usize) -> Option<Piece>
 }
 
 fn process_piece(schedule: &[u8], row: usize, field: usize) -> Option<Piece>
-    ensures { result ≡ piece_at (map process_row schedule.now) row field }
+    ensures { result ≡ piece_at (map number_row schedule.now) row field }
 {
     let process = schedule.get(row)?;
     number_alone(u64::from(*process), field)
@@ -89,22 +89,34 @@ fn content_piece(situations: &[Situation], row: usize, cell: usize) -> Option<Pi
 fn line_piece(edges: &[Edge], row: usize, field: usize) -> Option<Piece>
     ensures { result ≡ piece_at (map line_row edges.now) row field }
 {
-    let numbers = line_numbers(edges.get(row)?);
-    let number = numbers.get(field)?;
-    Some(Piece::Number(*number))
+    line_field(edges.get(row)?, field)
 }
 
-/// What stands in this field of a row of a part. `None` where there is none.
-pub(crate) fn read_piece(reply: &Reply, part: u32, row: usize, field: usize) -> Option<Piece>
-    ensures { result ≡ option_and_then (λ rows. piece_at rows row field) (rows_of (reply_data reply.now) part) }
+fn mark_piece(mark: u64, row: usize, field: usize) -> Option<Piece>
+    ensures { result ≡ piece_at (number_row mark ∷ []) row field }
 {
-    match (reply, part) {
+    if row > 0 {
+        return None;
+    }
+    number_alone(mark, field)
+}
+
+/// What stands in this field of a row of a part, and whether there is such a part at all.
+pub(crate) fn read_piece(
+    reply: &Reply,
+    part: u32,
+    row: usize,
+    field: usize,
+) -> Option<Option<Piece>>
+    ensures { result ≡ option_map (λ rows. piece_at rows row field) (rows_of (reply_data reply.now) part) }
+{
+    Some(match (reply, part) {
         (Reply::Consistent { schedule, .. }, 0) => process_piece(schedule, row, field),
         (Reply::Consistent { fixed, .. }, 1) => fixed_piece(fixed, row, field),
         (Reply::Because(situations), 2) => count_piece(situations, row, field),
         (Reply::Because(situations), 3) => content_piece(situations, row, field),
-        (Reply::Cycle(edges), 4) => line_piece(edges, row, field),
-        (Reply::MarkSet(mark), 5) if row == 0 => number_alone(*mark, field),
-        _ => None,
-    }
+        (Reply::MarkSet(mark), 4) => mark_piece(*mark, row, field),
+        (Reply::Cycle(edges), 5) => line_piece(edges, row, field),
+        _ => return None,
+    })
 }

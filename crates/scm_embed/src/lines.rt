@@ -1,7 +1,8 @@
 //! The lines of a short refutation, as numbers.
-ghost use Rattle.std.specs.Prelude.{◌≡◌};
-ghost use Rattle.scm_embed.specs.Evidence.{reason_numbers, line_numbers};
+ghost use Rattle.std.specs.Prelude.{◌≡◌, slice_get};
+ghost use Rattle.scm_embed.specs.Evidence.{reason_numbers, line_numbers, line_row};
 
+use crate::evidence::Piece;
 use scm_orders::{Edge, Reason};
 
 /// The number of a reason, and those of the earlier lines that it names, which are 0 where it names none.
@@ -20,7 +21,7 @@ fn reason_numbers(reason: Reason) -> (u64, u32, u32)
 }
 
 /// The numbers of a line: where its first and its second operation stand, its reason, and the lines that this names.
-pub(crate) fn line_numbers(edge: &Edge) -> [u64; 7]
+fn line_numbers(edge: &Edge) -> [u64; 7]
     ensures { result ≡ line_numbers edge.now }
 {
     let (reason, first, second) = reason_numbers(edge.reason);
@@ -33,4 +34,13 @@ pub(crate) fn line_numbers(edge: &Edge) -> [u64; 7]
         u64::from(first),
         u64::from(second),
     ]
+}
+
+/// What stands in this field of a line.
+pub(crate) fn line_field(edge: &Edge, field: usize) -> Option<Piece>
+    ensures { result ≡ slice_get (line_row edge.now) field }
+{
+    let numbers = line_numbers(edge);
+    let number = numbers.get(field)?;
+    Some(Piece::Number(*number))
 }

@@ -228,10 +228,10 @@ impl State {
         let Some(answer) = &self.answer else {
             return NO_EVIDENCE;
         };
-        if count_rows(&answer.reply, part).is_none() {
+        let Some(found) = read_piece(&answer.reply, part, row, field) else {
             return NO_EVIDENCE;
-        }
-        let Some(piece) = read_piece(&answer.reply, part, row, field) else {
+        };
+        let Some(piece) = found else {
             return BAD_NUMBER;
         };
         self.tell(piece, number)
