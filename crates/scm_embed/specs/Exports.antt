@@ -1,5 +1,5 @@
 -- What the exported calls do to what a handle holds.
-use Rattle.std.specs.Prelude.{ℕ, ◌≡◌, ◌⊎◌, ◌<◌, ◌≤◌, List, length, take, Option, None, MatchOption, IsSomeAnd}
+use Rattle.std.specs.Prelude.{ℕ, ◌≡◌, ◌⊎◌, ◌<◌, ◌≤◌, List, length, take, Option, None, Some, MatchOption, IsSomeAnd}
 use Rattle.scm_embed.specs.declared.codes.TheConstants.{DONE, NO_ROOM, NO_MEMORY, CLOSED}
 use Rattle.scm_embed.specs.declared.state.State.{State}
 use Rattle.scm_embed.specs.Calls.{IsNew}
