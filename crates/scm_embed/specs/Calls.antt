@@ -1,5 +1,5 @@
 -- The calls that are made by numbers: which call a number stands for, and what it does to a monitor.
-use Rattle.std.specs.Prelude.{ℕ, ◌≡◌, ◌⊎◌, ◌-◌, ◌==◌, if◌then◌else◌, List, [], ◌∷◌, Option, None, Some, MatchOption, IsSomeAnd, slice_get}
+use Rattle.std.specs.Prelude.{ℕ, ◌≡◌, ◌⊎◌, ◌-◌, ◌==◌, if◌then◌else◌, List, [], Option, None, Some, MatchOption, IsSomeAnd, slice_get}
 use Rattle.std.specs.Option.{option_map}
 use Rattle.scm_amo.specs.Amos.{amos}
 use Rattle.scm_cells.specs.declared.width.Width.TheVariants.{W, D}

@@ -1,5 +1,5 @@
 -- The names that have numbers: a name's number is its place in this list.
-use Rattle.std.specs.Prelude.{ℕ, ◌≡◌, ◌⊎◌, List, [], ◌∷◌, ◌++◌, length, Option, Result, Ok, MatchOption, IfOk, OnErr, position, slice_get}
+use Rattle.std.specs.Prelude.{ℕ, ◌≡◌, ◌⊎◌, List, [], ◌∷◌, ◌++◌, length, Option, Result, Ok, MatchOption, IfOk, OnErr, position}
 use Rattle.scm_sequences.specs.declared.no_memory.NoMemory.{NoMemory}
 use Rattle.scm_cells.specs.Names.{name_eq}
 use Rattle.scm_embed.specs.declared.codes.TheConstants.{DONE, NO_MEMORY}

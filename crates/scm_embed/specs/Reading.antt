@@ -1,7 +1,7 @@
 -- What C reads of a monitor: numbers of names, and the evidence of the last reply.
 use Rattle.std.specs.Prelude.{ℕ, ◌≡◌, List, length, MatchOption, MatchBool, option_map}
 use Rattle.scm_cells.specs.Names.{is_name}
-use Rattle.scm_embed.specs.declared.codes.TheConstants.{DONE, BAD_NUMBER, NO_EVIDENCE, STILL_OPEN}
+use Rattle.scm_embed.specs.declared.codes.TheConstants.{DONE, NO_EVIDENCE, STILL_OPEN}
 use Rattle.scm_embed.specs.declared.evidence.Piece.{Piece}
 use Rattle.scm_embed.specs.declared.evidence.Piece.TheVariants.{Number, Cell, Open}
 use Rattle.scm_embed.specs.declared.state.State.{State}
