@@ -14,7 +14,7 @@ ghost use Rattle.std.specs.Prelude.{◌≡◌, ◌≢◌, None, Some, is_some};
 ghost use Rattle.std.specs.Option.{option_map};
 ghost use Rattle.scm_embed.specs.Calls.{CallsAt, OpensAt, ReportsAt};
 ghost use Rattle.scm_embed.specs.Exports.{AnswersLine, GivesText, KeepsAll, MakesHeld, OnHeld};
-ghost use Rattle.scm_embed.specs.Reading.{CountsAt, KeepsAnswer, NamesAt, ReadsAt};
+ghost use Rattle.scm_embed.specs.Reading.{CountsAt, NamesAt, ReadsAt};
 
 use codes::{CLOSED, DONE, NO_MEMORY, NO_ROOM};
 use opening::Cell;
