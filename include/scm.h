@@ -10,16 +10,18 @@
  *
  * Names, lines, replies, refusals and limits are those of docs/LANGUAGE.md, without workers: a script that is handed over line by
  * line has the replies that `scm_monitor --workers 0` writes for it. On the hot path numbers take the place of names: scm_name
- * gives a name its number once, and scm_report and scm_call answer by a number. Memory comes from malloc; where it is refused a
- * call is answered SCM_REFUSED + 18 and has changed nothing.
+ * gives a name its number once, scm_open, scm_report and scm_call answer by a number, and scm_evidence_at reads what was found.
+ * Memory comes from malloc; where it is refused a call is answered SCM_REFUSED_MEMORY, or SCM_NO_MEMORY where it isn't one of a
+ * script, and has changed nothing.
  *
  * Threads: Calls for one monitor don't overlap. Between calls a monitor may go from one thread to another one. Monitors share
  * nothing, so each thread may have its own.
  *
  * What you must see to, and nothing here can: that a monitor is all zeros before scm_make, and is what a call left after; that it
- * isn't copied while it is live; that each pointer leads to as much memory as its length says, also where that is 0; that `out` and
- * `needed` overlap nothing else that is passed; that no call is made from a signal handler. All else is answered: any bytes, any
- * number, any length, a monitor that isn't live. */
+ * isn't copied while it is live; that each pointer leads to as much memory as its length says, also where that is 0; that what is
+ * written to (`out`, `needed`, `number`, `count`) overlaps nothing else that is passed; that no call is made from a signal handler.
+ * All else is answered: any bytes, any number, any length, a monitor that isn't live. What isn't answered SCM_DONE leaves what it
+ * would write to as it was, but for `needed` at SCM_NO_ROOM. */
 #ifndef SCM_H
 #define SCM_H
 
@@ -44,9 +46,11 @@ typedef struct scm_monitor {
 enum {
   SCM_DONE = 0,       /* done; of a call: "ok" */
   SCM_NO_ROOM = 1,    /* the text is longer than the room: needed says how long it is; scm_text gives it */
-  SCM_NO_MEMORY = 2,  /* for the text, which scm_text gives when there is some; or for a monitor */
+  SCM_NO_MEMORY = 2,  /* for the text, which scm_text gives when there is some; for a monitor; for the number of a new name */
   SCM_CLOSED = 3,     /* the monitor isn't live; to scm_make: it is live already */
-  SCM_BAD_NUMBER = 4, /* a number stands for no name, kind of access or kind of call; or the word is no name */
+  SCM_BAD_NUMBER = 4, /* a number stands for nothing: no name, kind, row or field; or the word is no name */
+  SCM_NO_EVIDENCE = 5, /* the last reply has no such part */
+  SCM_STILL_OPEN = 6,  /* the contents of the cell are open: `?` */
 
   SCM_MARK_SET = 16, /* "ok m" */
   SCM_CONSISTENT = 17,
@@ -124,9 +128,35 @@ enum {
   SCM_CLOSE,
 };
 
-enum { SCM_LONGEST_LINE = 4096, SCM_LONGEST_NAME = 32 };
+/* A cell of a trace that is opened: the number of its name, its width in bits, 32 or 64, and what it holds at first; where that
+ * isn't known, `is_unset` is 1, or any number but 0, and `initial` doesn't count. */
+typedef struct scm_cell {
+  size_t name;
+  uint32_t bits;
+  uint32_t is_unset;
+  uint64_t initial;
+} scm_cell;
 
-/* Makes a monitor: no session has entered it, and no trace is open. SCM_NO_MEMORY where there is none. */
+/* Parts of the evidence, with the fields of their rows. */
+enum {
+  SCM_SCHEDULE, /* of SCM_CONSISTENT, a row for each step: 0 the process */
+  SCM_FIXED,    /* of SCM_CONSISTENT, a row for each unset cell that the schedule fixes: 0 the number of the cell's name, 1 its value */
+  SCM_COUNTS,   /* of SCM_BECAUSE, a row for each situation: p how many operations of process p were executed */
+  SCM_CONTENTS, /* of SCM_BECAUSE, a row for each situation: c what cell c holds, or SCM_STILL_OPEN; in the order of declaration */
+  SCM_MARKED,   /* of SCM_MARK_SET, one row: 0 the mark */
+  SCM_LINES,    /* of SCM_CYCLE_FOUND, a row for each line: see below */
+};
+
+/* Fields of a line: SCM_FROM stands before SCM_TO in every legal schedule, operation _AT of process _PROCESS, by the reason, which
+ * names the earlier lines SCM_FIRST and SCM_SECOND, or 0. */
+enum { SCM_FROM_PROCESS, SCM_FROM_AT, SCM_TO_PROCESS, SCM_TO_AT, SCM_REASON, SCM_FIRST, SCM_SECOND };
+
+/* Reasons, as docs/LANGUAGE.md has them. */
+enum { SCM_PROGRAM, SCM_SOURCE, SCM_INITIAL, SCM_JOINED, SCM_HIDDEN, SCM_AFTER_SOURCE, SCM_BEFORE_NEXT };
+
+enum { SCM_LONGEST_LINE = 4096, SCM_LONGEST_NAME = 32, SCM_MOST_CELLS = 64 };
+
+/* Makes a monitor: no session has entered it, and no trace is open. SCM_DONE, or SCM_NO_MEMORY where memory is refused. */
 uint32_t scm_make(scm_monitor *monitor);
 
 /* Frees it. Where it isn't live nothing happens. */
@@ -139,9 +169,16 @@ uint32_t scm_line(scm_monitor *monitor, const uint8_t *line, size_t length, uint
 /* The text of the last reply, as scm_line gives it, as often as you like; of a call by numbers too. */
 uint32_t scm_text(scm_monitor *monitor, uint8_t *out, size_t room, size_t *needed);
 
-/* The number of a name, from 0 on, whatever it names: sessions, traces and cells have one list of names here. A name keeps it as
- * long as the monitor is. */
+/* The number of a name, from 0 on, whatever it names: sessions, traces and cells have one list of names here. A name that has a
+ * number keeps it as long as the monitor is, and a new one gets the next. SCM_DONE; SCM_BAD_NUMBER just where the word is no name;
+ * SCM_NO_MEMORY, only of a new name, where memory is refused. */
 uint32_t scm_name(scm_monitor *monitor, const uint8_t *word, size_t length, size_t *number);
+
+/* The script's `open`: session, trace and cells by the numbers of their names; `scm_open`, below, also takes NULL for `cells`.
+ * Answers SCM_DONE or a refusal. SCM_BAD_NUMBER where a number stands for no name, a cell has another width than 32 or 64 bits, or
+ * `count` is more than SCM_MOST_CELLS; then no cell is looked at. */
+uint32_t scm_open_trace(scm_monitor *monitor, size_t session, size_t trace, uint64_t processes, uint64_t budget, const scm_cell *cells,
+                        size_t count);
 
 /* The script's `do`: session, trace and cell by their numbers. Answers SCM_DONE or a refusal. */
 uint32_t scm_report(scm_monitor *monitor, size_t session, size_t trace, uint64_t process, uint32_t access, size_t cell,
@@ -149,6 +186,14 @@ uint32_t scm_report(scm_monitor *monitor, size_t session, size_t trace, uint64_t
 
 /* A call about a trace. Answers SCM_DONE, SCM_MARK_SET, a verdict or a refusal. */
 uint32_t scm_call(scm_monitor *monitor, size_t session, size_t trace, uint32_t call, uint64_t number);
+
+/* How many rows a part of the evidence of the last reply has. SCM_DONE, or SCM_NO_EVIDENCE where it has no such part. */
+uint32_t scm_evidence_count(scm_monitor *monitor, uint32_t part, size_t *count);
+
+/* What stands in a field of a row of a part, all from 0 on, as often as you like: nothing is asked again. SCM_DONE, SCM_STILL_OPEN,
+ * SCM_NO_EVIDENCE; SCM_BAD_NUMBER where the part has no such row or field. A cell of SCM_FIXED that was only named in lines gets a
+ * number here: SCM_NO_MEMORY where memory is refused for it. */
+uint32_t scm_evidence_at(scm_monitor *monitor, uint32_t part, size_t row, size_t field, uint64_t *number);
 
 /* ---- The same with less to write */
 
@@ -161,6 +206,12 @@ static inline uint32_t scm_say(scm_monitor *monitor, const char *line, char *out
 static inline size_t scm_number(scm_monitor *monitor, const char *name) {
   size_t number = SIZE_MAX;
   return scm_name(monitor, (const uint8_t *)name, strlen(name), &number) == SCM_DONE ? number : SIZE_MAX;
+}
+
+/* Opens a trace. NULL for its cells is answered SCM_BAD_NUMBER. */
+static inline uint32_t scm_open(scm_monitor *monitor, size_t session, size_t trace, uint64_t processes, uint64_t budget,
+                                const scm_cell *cells, size_t count) {
+  return cells == NULL ? (uint32_t)SCM_BAD_NUMBER : scm_open_trace(monitor, session, trace, processes, budget, cells, count);
 }
 
 static inline uint32_t scm_claim(scm_monitor *monitor, size_t session, size_t trace, uint64_t process) {

@@ -78,13 +78,44 @@ static bool name(scm_monitor *monitor) {
   return code == SCM_CLOSED || code == SCM_BAD_NUMBER || (code == SCM_DONE && number != SIZE_MAX);
 }
 
+/* Cells at random, no cells, and counts of which each is too large: then there is no memory behind the pointer. */
+static bool open_trace(scm_monitor *monitor) {
+  size_t cells = chance(4), count = chance(5) == 0 ? SCM_MOST_CELLS + 1 + chance(SIZE_MAX - SCM_MOST_CELLS) : cells;
+  scm_cell *declared = malloc(cells * sizeof *declared);
+  for (size_t i = 0; i < cells; i++)
+    declared[i] = (scm_cell){any_number(), chance(4) == 0 ? (uint32_t)any_number() : 32u << chance(2), (uint32_t)any_number(), any_number()};
+  uint32_t code = scm_open(monitor, any_number(), any_number(), any_number(), any_number(), chance(9) == 0 ? NULL : declared, count);
+  free(declared);
+  return is_answer(code) && (count == cells || code == SCM_BAD_NUMBER || code == SCM_CLOSED);
+}
+
+/* Evidence, mostly behind a question. What isn't answered SCM_DONE leaves its number as it was. */
+static bool evidence(scm_monitor *monitor) {
+  if (chance(4) != 0)
+    scm_call(monitor, chance(2), 2 + chance(2), SCM_ASK + (uint32_t)chance(6), 0);
+  uint32_t part = (uint32_t)any_number();
+  size_t count = 17;
+  uint64_t number = 17;
+  uint32_t code = scm_evidence_count(monitor, part, &count);
+  size_t row = chance(2) == 0 ? (size_t)any_number() : chance(count + 1), field = any_number();
+  uint32_t read = scm_evidence_at(monitor, part, row, field, &number);
+  if (code != SCM_DONE)
+    return (code == SCM_NO_EVIDENCE || code == SCM_CLOSED) && read == code && count == 17 && number == 17;
+  if (row >= count || field > 2 * SCM_MOST_CELLS)
+    return read == SCM_BAD_NUMBER && number == 17;
+  return read == SCM_DONE || ((read == SCM_BAD_NUMBER || read == SCM_STILL_OPEN) && number == 17);
+}
+
 static bool any_call(scm_monitor *monitor) {
-  switch (chance(6)) {
+  switch (chance(10)) {
   case 0:
   case 1: return lines_and_texts(monitor);
   case 2: return name(monitor);
-  case 3:
+  case 3: return open_trace(monitor);
   case 4:
+  case 5: return evidence(monitor);
+  case 6:
+  case 7:
     return is_answer(scm_report(monitor, any_number(), any_number(), any_number(), (uint32_t)any_number(), any_number(), any_number(),
                                 any_number()));
   default: return is_answer(scm_call(monitor, any_number(), any_number(), (uint32_t)any_number(), any_number()));

@@ -27,14 +27,14 @@ public:
   Monitor() {
     if (scm_make(&monitor_) != SCM_DONE)
       throw std::runtime_error("no memory");
-    std::string open = "sim open run " + std::to_string(CORES) + " 1000000";
-    for (const char *cell : CELLS) {
-      open += std::string(" ") + cell + ":w=0";
-      cells_.push_back(scm_number(&monitor_, cell));
-    }
-    say(open);
     session_ = scm_number(&monitor_, "sim");
     trace_ = scm_number(&monitor_, "run");
+    std::vector<scm_cell> declared;
+    for (const char *cell : CELLS) {
+      cells_.push_back(scm_number(&monitor_, cell));
+      declared.push_back({cells_.back(), 32, 0, 0});
+    }
+    checked(scm_open(&monitor_, session_, trace_, CORES, 1000000, declared.data(), declared.size()));
     for (unsigned core = 0; core < CORES; core++)
       checked(scm_claim(&monitor_, session_, trace_, core));
   }

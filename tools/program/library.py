@@ -15,7 +15,7 @@ MAIN = """
 fn main(rt: HostRuntime) {{
     let alloc = rt.alloc();
     let mut monitor = Monitor {{ slot: Slot::empty(alloc), live: false }};
-    let (bytes, mut written, mut number) = ([0; 8], [0; 8], 0);
+    let (bytes, mut written, mut number, mut value) = ([0; 8], [0; 8], 0, 0);
     {calls}
 }}
 """
@@ -23,8 +23,10 @@ ARGUMENTS = {
     "Global": "alloc",
     "&mut Monitor": "&mut monitor",
     "&[u8]": "&bytes",
+    "&[Cell]": "&[]",
     "&mut [u8]": "&mut written",
     "&mut usize": "&mut number",
+    "&mut u64": "&mut value",
 }
 OUTSIDE = f'"{LIBRARY}::scm_'
 OUTSIDE_EXPORT = re.compile(r"define .*@(scm_\w+)\(")

@@ -1,19 +1,22 @@
 -- The calls that are made by numbers: which call a number stands for, and what it does to a monitor.
-use Rattle.std.specs.Prelude.{ℕ, ◌≡◌, ◌-◌, ◌==◌, if◌then◌else◌, List, [], ◌∷◌, Option, None, Some, MatchOption, slice_get}
+use Rattle.std.specs.Prelude.{ℕ, ◌≡◌, ◌⊎◌, ◌-◌, ◌==◌, if◌then◌else◌, List, [], Option, None, Some, MatchOption, IsSomeAnd, slice_get}
 use Rattle.std.specs.Option.{option_map}
 use Rattle.scm_amo.specs.Amos.{amos}
 use Rattle.scm_cells.specs.declared.width.Width.TheVariants.{W, D}
 use Rattle.scm_cells.specs.declared.number.Num.TheVariants.{Plain}
 use Rattle.scm_lowering.specs.declared.access.Access.{Access}
 use Rattle.scm_lowering.specs.declared.access.Access.TheVariants.{Load, Store, Amo, ReadWrite}
-use Rattle.scm_book.specs.Calls.{CallData, ReplyData, claims, releases, reports, sets_mark, goes_back, raises, asks, asks_why, asks_cycle, closes}
+use Rattle.scm_sequences.specs.declared.refusal.Refusal.TheVariants.{NoMemory}
+use Rattle.scm_book.specs.Machine.{empty_machine}
+use Rattle.scm_book.specs.Calls.{CallData, ReplyData, reply_data, refused, opens, claims, releases, reports, sets_mark, goes_back, raises, asks, asks_why, asks_cycle, closes}
 use Rattle.scm_sessions.specs.Asking.{good}
 use Rattle.scm_sessions.specs.Exchanges.{Answers}
 use Rattle.scm_sessions.specs.Script.{AnswersCall}
-use Rattle.scm_sessions.specs.Answering.{answer_replies}
 use Rattle.scm_embed.specs.declared.codes.TheConstants.{BAD_NUMBER}
+use Rattle.scm_embed.specs.declared.opening.Cell.{Cell}
 use Rattle.scm_embed.specs.declared.state.State.{State}
 use Rattle.scm_embed.specs.Codes.{reply_code}
+use Rattle.scm_embed.specs.Opening.{declarations_of}
 
 -- the name of this number
 abbrev pub name_at : State → ℕ → Option (List ℕ)
@@ -50,12 +53,36 @@ call_of_kind kind trace number =
 abbrev pub IsBadNumber : State → ℕ → State → Type 0
 IsBadNumber before code after = (code ≡ BAD_NUMBER) × (after ≡ before)
 
--- a call of the session of this name leads from one monitor to the other one, whose last answer has the reply, of which this is
--- the number
+-- the last answer is this reply to the session of this name
+abbrev pub HoldsReply : State → List ℕ → ReplyData → Type 0
+HoldsReply state session reply = IsSomeAnd state.answer (λ answer. (answer.name ≡ Some session) × (reply_data answer.reply ≡ reply))
+
+-- nobody has entered, no trace is open, nothing was answered, and no name has a number
+abbrev pub IsNew : State → Type 0
+IsNew state =
+    (state.sessions.names ≡ []) × (state.sessions.book.machine ≡ empty_machine) × (state.answer ≡ None) × (state.names.items ≡ [])
+
+-- a call of the session of this name leads from one monitor to the other one, whose last answer is the reply, of which this is the
+-- number
 abbrev pub MakesCall : State → List ℕ → CallData → ℕ → State → Type 0
 MakesCall before session call code after =
     (reply : ReplyData) × Answers AnswersCall before.sessions (good session call) reply after.sessions
-    × (answer_replies after.answer ≡ reply ∷ []) × (code ≡ reply_code reply) × (after.names ≡ before.names)
+    × HoldsReply after session reply × (code ≡ reply_code reply) × (after.names ≡ before.names)
+
+-- memory is refused for a call of this session, with everything as it was but the last answer
+abbrev pub RefusesMemory : State → List ℕ → ℕ → State → Type 0
+RefusesMemory before session code after =
+    (after.sessions ≡ before.sessions) × HoldsReply after session (refused NoMemory) × (code ≡ reply_code (refused NoMemory))
+    × (after.names ≡ before.names)
+
+-- the session of one number opens a trace that has the name of the other one, with the cells that are declared; or memory is
+-- refused for these
+abbrev pub OpensAt : State → ℕ → ℕ → ℕ → ℕ → List Cell → ℕ → State → Type 0
+OpensAt before session trace procs budget cells code after =
+    MatchOption (name_at before session) (IsBadNumber before code after)
+    (λ s. MatchOption (name_at before trace) (IsBadNumber before code after)
+    (λ t. RefusesMemory before s code after ⊎ MatchOption (declarations_of before.names.items cells) (IsBadNumber before code after)
+    (λ decls. MakesCall before s (opens t procs budget decls) code after)))
 
 -- the session of one number calls about the trace of the other one
 abbrev pub CallsAt : State → ℕ → ℕ → ℕ → ℕ → ℕ → State → Type 0

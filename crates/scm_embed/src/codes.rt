@@ -13,8 +13,12 @@ pub(crate) const NO_ROOM: u32 = 1;
 pub(crate) const NO_MEMORY: u32 = 2;
 /// There is no monitor here.
 pub(crate) const CLOSED: u32 = 3;
-/// A number stands for no name, access or call.
+/// A number stands for no name, kind or place, or a word is no name.
 pub(crate) const BAD_NUMBER: u32 = 4;
+/// The last reply has no such evidence.
+pub(crate) const NO_EVIDENCE: u32 = 5;
+/// The contents of a cell are open.
+pub(crate) const STILL_OPEN: u32 = 6;
 
 /// The number of a reply.
 pub(crate) fn code_of(reply: &Reply) -> u32

@@ -3,17 +3,21 @@
 
 mod calls;
 mod codes;
+mod evidence;
+mod lines;
 mod names;
+mod opening;
 mod slot;
 mod state;
 
-ghost use Rattle.std.specs.Prelude.{◌≡◌, ◌≢◌, ◌<◌, ◌≤◌, [], None, Some, true, false, length, is_some, IsSomeAnd};
+ghost use Rattle.std.specs.Prelude.{◌≡◌, ◌≢◌, None, Some, is_some};
 ghost use Rattle.std.specs.Option.{option_map};
-ghost use Rattle.scm_book.specs.Machine.{empty_machine};
-ghost use Rattle.scm_sessions.specs.Replies.{answer_text};
-ghost use Rattle.scm_embed.specs.Exports.{AnswersHeld, CallsHeld, GivesText, KeepsHeld, NamesHeld, ReportsHeld, ShowsText};
+ghost use Rattle.scm_embed.specs.Calls.{CallsAt, OpensAt, ReportsAt};
+ghost use Rattle.scm_embed.specs.Exports.{AnswersLine, GivesText, KeepsAll, MakesHeld, OnHeld};
+ghost use Rattle.scm_embed.specs.Reading.{CountsAt, NamesAt, ReadsAt};
 
-use codes::{BAD_NUMBER, CLOSED, DONE, NO_MEMORY, NO_ROOM};
+use codes::{CLOSED, DONE, NO_MEMORY, NO_ROOM};
+use opening::Cell;
 use slot::Slot;
 use state::State;
 use std::alloc::Global;
@@ -58,13 +62,8 @@ impl Monitor {
 
 /// Copies the text of the last answer where it fits.
 fn copy_text(state: &mut State, out: &mut [u8], needed: &mut usize) -> u32
-    ensures sessions { state.new.sessions ≡ state.old.sessions }
-    ensures answer { state.new.answer ≡ state.old.answer }
-    ensures names { state.new.names ≡ state.old.names }
-    ensures text { result ≡ DONE → ShowsText state.new out.new needed.new }
-    ensures fits { result ≡ DONE → needed.new ≤ length out.new }
-    ensures no_room { result ≡ NO_ROOM → (needed.new ≡ length (answer_text state.new.answer)) × (length out.new < needed.new) }
-    ensures other { result ≢ DONE → out.new ≡ out.old }
+    ensures kept { KeepsAll state.old state.new }
+    ensures text { GivesText state.new out.old out.new needed.old needed.new result }
 {
     if state.fetch().is_err() {
         return NO_MEMORY;
@@ -81,9 +80,7 @@ fn copy_text(state: &mut State, out: &mut [u8], needed: &mut usize) -> u32
 /// Makes a monitor that no session has entered, where there is none.
 #[unsafe(no_mangle)]
 pub extern "C" fn scm_make(alloc: Global, m: &mut Monitor) -> u32
-    ensures made { result ≡ DONE → IsSomeAnd m.new.slot.value (λ state.
-        (state.sessions.names ≡ []) × (state.sessions.book.machine ≡ empty_machine)) }
-    ensures other { result ≢ DONE → m.new.slot.value ≡ m.old.slot.value }
+    ensures { MakesHeld m.old.slot.value result m.new.slot.value }
 {
     if m.live {
         return CLOSED;
@@ -114,8 +111,9 @@ pub extern "C" fn scm_line(
     out: &mut [u8],
     needed: &mut usize,
 ) -> u32
-    ensures answered { AnswersHeld m.old.slot.value line.now m.new.slot.value }
-    ensures text { GivesText m.new.slot.value out.old out.new needed.new result }
+    ensures answered { OnHeld m.old.slot.value result m.new.slot.value (λ before after.
+        AnswersLine before line.now after × GivesText after out.old out.new needed.old needed.new result) }
+    ensures closed { m.old.slot.value ≡ None → (out.new ≡ out.old) × (needed.new ≡ needed.old) }
 {
     let Some(mut state) = m.take(alloc) else {
         return CLOSED;
@@ -134,8 +132,9 @@ pub extern "C" fn scm_text(
     out: &mut [u8],
     needed: &mut usize,
 ) -> u32
-    ensures kept { KeepsHeld m.old.slot.value m.new.slot.value }
-    ensures text { GivesText m.new.slot.value out.old out.new needed.new result }
+    ensures text { OnHeld m.old.slot.value result m.new.slot.value (λ before after.
+        KeepsAll before after × GivesText after out.old out.new needed.old needed.new result) }
+    ensures closed { m.old.slot.value ≡ None → (out.new ≡ out.old) × (needed.new ≡ needed.old) }
 {
     let Some(mut state) = m.take(alloc) else {
         return CLOSED;
@@ -148,20 +147,38 @@ pub extern "C" fn scm_text(
 /// Gives a name its number.
 #[unsafe(no_mangle)]
 pub extern "C" fn scm_name(alloc: Global, m: &mut Monitor, word: &[u8], number: &mut usize) -> u32
-    ensures { NamesHeld m.old.slot.value word.now number.new result m.new.slot.value }
+    ensures named { OnHeld m.old.slot.value result m.new.slot.value (λ before after.
+        NamesAt before word.now result number.new after) }
+    ensures other { result ≢ DONE → number.new ≡ number.old }
 {
     let Some(mut state) = m.take(alloc) else {
         return CLOSED;
     };
-    let found = state.number_of(word);
+    let code = state.number_of(word, number);
     m.put(state);
-    match found {
-        Some(place) => {
-            *number = place;
-            DONE
-        }
-        None => BAD_NUMBER,
-    }
+    code
+}
+
+/// Opens a trace: session, trace and cells by the numbers of their names.
+#[unsafe(no_mangle)]
+pub extern "C" fn scm_open_trace(
+    alloc: Global,
+    m: &mut Monitor,
+    session: usize,
+    trace: usize,
+    procs: u64,
+    budget: u64,
+    cells: &[Cell],
+) -> u32
+    ensures { OnHeld m.old.slot.value result m.new.slot.value (λ before after.
+        OpensAt before session trace procs budget cells.now result after) }
+{
+    let Some(mut state) = m.take(alloc) else {
+        return CLOSED;
+    };
+    let code = state.open(session, trace, procs, budget, cells);
+    m.put(state);
+    code
 }
 
 /// Reports an access: session, trace and cell by the numbers of their names, the access by that of its kind.
@@ -177,7 +194,8 @@ pub extern "C" fn scm_report(
     first: u64,
     second: u64,
 ) -> u32
-    ensures { ReportsHeld m.old.slot.value session trace process kind cell first second result m.new.slot.value }
+    ensures { OnHeld m.old.slot.value result m.new.slot.value (λ before after.
+        ReportsAt before session trace process kind cell first second result after) }
 {
     let Some(mut state) = m.take(alloc) else {
         return CLOSED;
@@ -197,12 +215,55 @@ pub extern "C" fn scm_call(
     kind: u32,
     number: u64,
 ) -> u32
-    ensures { CallsHeld m.old.slot.value session trace kind number result m.new.slot.value }
+    ensures { OnHeld m.old.slot.value result m.new.slot.value (λ before after.
+        CallsAt before session trace kind number result after) }
 {
     let Some(mut state) = m.take(alloc) else {
         return CLOSED;
     };
     let code = state.call(session, trace, kind, number);
+    m.put(state);
+    code
+}
+
+/// Tells how many rows a part of the evidence of the last reply has.
+#[unsafe(no_mangle)]
+pub extern "C" fn scm_evidence_count(
+    alloc: Global,
+    m: &mut Monitor,
+    part: u32,
+    count: &mut usize,
+) -> u32
+    ensures counted { OnHeld m.old.slot.value result m.new.slot.value (λ before after.
+        (after ≡ before) × CountsAt before part result count.new) }
+    ensures other { result ≢ DONE → count.new ≡ count.old }
+{
+    let Some(state) = m.take(alloc) else {
+        return CLOSED;
+    };
+    let code = state.count(part, count);
+    m.put(state);
+    code
+}
+
+/// Tells what stands in a field of a row of a part of the evidence of the last reply.
+#[unsafe(no_mangle)]
+pub extern "C" fn scm_evidence_at(
+    alloc: Global,
+    m: &mut Monitor,
+    part: u32,
+    row: usize,
+    field: usize,
+    number: &mut u64,
+) -> u32
+    ensures read { OnHeld m.old.slot.value result m.new.slot.value (λ before after.
+        ReadsAt before part row field result number.new after) }
+    ensures other { result ≢ DONE → number.new ≡ number.old }
+{
+    let Some(mut state) = m.take(alloc) else {
+        return CLOSED;
+    };
+    let code = state.evidence(part, row, field, number);
     m.put(state);
     code
 }

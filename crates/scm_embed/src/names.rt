@@ -1,27 +1,25 @@
 //! The names that numbers stand for.
-ghost use Rattle.std.specs.Prelude.{◌≡◌, length, take, position, Some, IfSome, slice_get};
-ghost use Rattle.scm_cells.specs.Names.{name_eq};
+ghost use Rattle.std.specs.Prelude.{◌≡◌};
+ghost use Rattle.scm_embed.specs.Names.{place_of, Numbers};
 
 use scm_cells::Name;
+use scm_sequences::NoMemory;
 
 /// Where a name stands among these first.
 fn place_of(names: &[Name], name: Name) -> Option<usize>
-    ensures { result ≡ position (λ other. name_eq other name) names.now }
+    ensures { result ≡ place_of names.now name }
 {
     names.iter().position(|&other| other == name)
 }
 
-/// The number of a name among these, where it is put last if it is new. `None` where memory is refused.
-pub(crate) fn number_in(names: &mut Vec<Name>, name: Name) -> Option<usize>
-    ensures earlier { take (length names.old.items) names.new.items ≡ names.old.items }
-    ensures name { IfSome result (λ number. slice_get names.new.items number ≡ Some name) }
+/// The number of a name among these, where it is put last if it is new.
+pub(crate) fn number_in(names: &mut Vec<Name>, name: Name) -> Result<usize, NoMemory>
+    ensures { Numbers names.old.items name result names.new.items }
 {
     if let Some(place) = place_of(names, name) {
-        return Some(place);
+        return Ok(place);
     }
     let place = names.len();
-    match names.push(name) {
-        Ok(()) => Some(place),
-        Err(_) => None,
-    }
+    names.push(name)?;
+    Ok(place)
 }

@@ -1,8 +1,9 @@
 //! What a handle stands for.
-ghost use Rattle.std.specs.Prelude.{◌≡◌, [], length, take, Some, OnOk, IfSome, option_copied};
-ghost use Rattle.scm_book.specs.Machine.{empty_machine};
-ghost use Rattle.scm_book.specs.Calls.{call_data};
-ghost use Rattle.scm_embed.specs.Calls.{name_at, MakesCall, CallsAt, ReportsAt};
+ghost use Rattle.std.specs.Prelude.{◌≡◌, ◌≢◌, OnOk, option_copied};
+ghost use Rattle.scm_book.specs.Calls.{call_data, reply_data};
+ghost use Rattle.scm_embed.specs.Calls.{IsNew, HoldsReply, MakesCall, OpensAt, CallsAt, ReportsAt};
+ghost use Rattle.scm_embed.specs.Codes.{reply_code};
+ghost use Rattle.scm_embed.specs.Reading.{NamesAt, CountsAt, ReadsAt, TellsPiece};
 ghost use Rattle.scm_sessions.specs.Lines.{line_given, line_of};
 ghost use Rattle.scm_sessions.specs.Asking.{asked_by};
 ghost use Rattle.scm_sessions.specs.Script.{AnswersCall};
@@ -10,11 +11,13 @@ ghost use Rattle.scm_sessions.specs.Answering.{AnswersWith};
 ghost use Rattle.scm_sessions.specs.Replies.{answer_text};
 
 use crate::calls::{access_of, call_of};
-use crate::codes::{BAD_NUMBER, code_of};
+use crate::codes::{BAD_NUMBER, DONE, NO_EVIDENCE, NO_MEMORY, STILL_OPEN, code_of};
+use crate::evidence::{Piece, count_rows, read_piece};
 use crate::names::number_in;
-use scm_book::{Book, Call};
+use crate::opening::{Cell, declarations};
+use scm_book::{Book, Call, Reply};
 use scm_cells::Name;
-use scm_sequences::{LONGEST_LINE, NoMemory};
+use scm_sequences::{LONGEST_LINE, NoMemory, Refusal};
 use scm_sessions::{Answer, Port, Sessions, write_reply};
 use std::alloc::Global;
 
@@ -44,8 +47,7 @@ fn cut(line: &[u8]) -> Option<&[u8]>
 impl State {
     /// No session has entered, and no trace is open.
     pub(crate) fn new(alloc: Global) -> State
-        ensures names { result.sessions.names ≡ [] }
-        ensures machine { result.sessions.book.machine ≡ empty_machine }
+        ensures { IsNew result }
     {
         State {
             alloc,
@@ -85,14 +87,34 @@ impl State {
         }
     }
 
-    /// The number of a name, from 0 on, `None` where the bytes are no name or memory is refused.
-    pub(crate) fn number_of(&mut self, word: &[u8]) -> Option<usize>
-        ensures sessions { self.new.sessions ≡ self.old.sessions }
-        ensures answer { self.new.answer ≡ self.old.answer }
-        ensures earlier { take (length self.old.names.items) self.new.names.items ≡ self.old.names.items }
-        ensures name { IfSome result (λ number. name_at self.new number ≡ Some word.now) }
+    /// Tells the number of a name, which it gets where it has none.
+    pub(crate) fn number_of(&mut self, word: &[u8], number: &mut usize) -> u32
+        ensures named { NamesAt self.old word.now result number.new self.new }
+        ensures other { result ≢ DONE → number.new ≡ number.old }
     {
-        number_in(&mut self.names, Name::read(word)?)
+        let Some(name) = Name::read(word) else {
+            return BAD_NUMBER;
+        };
+        let Ok(place) = number_in(&mut self.names, name) else {
+            return NO_MEMORY;
+        };
+        *number = place;
+        DONE
+    }
+
+    /// Keeps the reply to a session, and gives its number.
+    fn keep(&mut self, session: Name, reply: Reply) -> u32
+        ensures code { result ≡ reply_code (reply_data reply) }
+        ensures answer { HoldsReply self.new session (reply_data reply) }
+        ensures sessions { self.new.sessions ≡ self.old.sessions }
+        ensures names { self.new.names ≡ self.old.names }
+    {
+        let code = code_of(&reply);
+        self.answer = Some(Answer {
+            name: Some(session),
+            reply,
+        });
+        code
     }
 
     /// Makes a call of a session, and keeps the answer.
@@ -100,12 +122,39 @@ impl State {
         ensures { MakesCall self.old session (call_data call) result self.new }
     {
         let reply = self.sessions.call_of(session, call);
-        let code = code_of(&reply);
-        self.answer = Some(Answer {
-            name: Some(session),
-            reply,
-        });
-        code
+        self.keep(session, reply)
+    }
+
+    /// Opens a trace.
+    pub(crate) fn open(
+        &mut self,
+        session: usize,
+        trace: usize,
+        procs: u64,
+        budget: u64,
+        cells: &[Cell],
+    ) -> u32
+        ensures { OpensAt self.old session trace procs budget cells.now result self.new }
+    {
+        let (Some(session), Some(trace)) = (self.names.get(session), self.names.get(trace)) else {
+            return BAD_NUMBER;
+        };
+        let (session, name) = (*session, *trace);
+        let Ok(read) = declarations(self.alloc, &self.names, cells) else {
+            return self.keep(session, Reply::Refused(Refusal::NoMemory));
+        };
+        let Some(cells) = read else {
+            return BAD_NUMBER;
+        };
+        self.make(
+            session,
+            Call::OpenTrace {
+                name,
+                procs,
+                budget,
+                cells,
+            },
+        )
     }
 
     /// Makes a call about a trace.
@@ -154,5 +203,55 @@ impl State {
                 access,
             },
         )
+    }
+
+    /// Tells how many rows a part of the last reply has.
+    pub(crate) fn count(&self, part: u32, count: &mut usize) -> u32
+        ensures counted { CountsAt self.now part result count.new }
+        ensures other { result ≢ DONE → count.new ≡ count.old }
+    {
+        let Some(answer) = &self.answer else {
+            return NO_EVIDENCE;
+        };
+        let Some(rows) = count_rows(&answer.reply, part) else {
+            return NO_EVIDENCE;
+        };
+        *count = rows;
+        DONE
+    }
+
+    /// Tells what stands in a field of a row of a part of the last reply.
+    pub(crate) fn evidence(&mut self, part: u32, row: usize, field: usize, number: &mut u64) -> u32
+        ensures read { ReadsAt self.old part row field result number.new self.new }
+        ensures other { result ≢ DONE → number.new ≡ number.old }
+    {
+        let Some(answer) = &self.answer else {
+            return NO_EVIDENCE;
+        };
+        let Some(found) = read_piece(&answer.reply, part, row, field) else {
+            return NO_EVIDENCE;
+        };
+        let Some(piece) = found else {
+            return BAD_NUMBER;
+        };
+        self.tell(piece, number)
+    }
+
+    /// Tells a piece of evidence: a cell by the number of its name.
+    fn tell(&mut self, piece: Piece, number: &mut u64) -> u32
+        ensures told { TellsPiece self.old piece result number.new self.new }
+        ensures other { result ≢ DONE → number.new ≡ number.old }
+    {
+        match piece {
+            Piece::Number(n) => *number = n,
+            Piece::Open => return STILL_OPEN,
+            Piece::Cell(name) => {
+                let Ok(place) = number_in(&mut self.names, name) else {
+                    return NO_MEMORY;
+                };
+                *number = place as u64;
+            }
+        }
+        DONE
     }
 }

@@ -1,0 +1,6 @@
+use Rattle.scm_book.specs.Calls.{reply_data}
+use Rattle.scm_embed.proofs.state.State.make.Goals as goal
+
+pub returns : goal.returns
+returns c =
+    (reply_data c.call_of-reply.result, rw (c.keep.ensures.sessions) c.call_of-reply.ensures, c.keep.ensures.answer, c.keep.ensures.code, c.keep.ensures.names)
