@@ -145,14 +145,17 @@ enum {
   SCM_CONTENTS, /* of SCM_BECAUSE, a row for each situation: c what cell c holds, or SCM_STILL_OPEN; in the order of declaration */
   SCM_MARKED,   /* of SCM_MARK_SET, one row: 0 the mark */
   SCM_LINES,    /* of SCM_CYCLE_FOUND, a row for each line: see below */
+  SCM_HINTS,    /* of SCM_CYCLE_FOUND, a row for each line: the numbers of the earlier lines that it goes by */
 };
 
-/* Fields of a line: SCM_FROM stands before SCM_TO in every legal schedule, operation _AT of process _PROCESS, by the reason, which
- * names the earlier lines SCM_FIRST and SCM_SECOND, or 0. */
-enum { SCM_FROM_PROCESS, SCM_FROM_AT, SCM_TO_PROCESS, SCM_TO_AT, SCM_REASON, SCM_FIRST, SCM_SECOND };
+/* Fields of a line: what it says of SCM_FROM and SCM_TO, operation _AT of process _PROCESS, in every legal schedule; by which rule;
+ * and for SCM_HIDDEN_BY the operation SCM_BY that hides. All as docs/LANGUAGE.md has them. */
+enum { SCM_SAYS, SCM_FROM_PROCESS, SCM_FROM_AT, SCM_TO_PROCESS, SCM_TO_AT, SCM_RULE, SCM_BY_PROCESS, SCM_BY_AT };
 
-/* Reasons, as docs/LANGUAGE.md has them. */
-enum { SCM_PROGRAM, SCM_SOURCE, SCM_INITIAL, SCM_JOINED, SCM_HIDDEN, SCM_AFTER_SOURCE, SCM_BEFORE_NEXT };
+/* What a line says: FROM stands before TO; TO sees FROM; TO sees first contents, and FROM is 0, 0; FROM is hidden from TO. */
+enum { SCM_BEFORE, SCM_SEES, SCM_SEES_FIRST, SCM_HIDDEN };
+
+enum { SCM_JOINED, SCM_HIDDEN_BY, SCM_SOURCE, SCM_AFTER_ALL, SCM_BEFORE_ALL, SCM_AFTER_SOURCE };
 
 enum { SCM_LONGEST_LINE = 4096, SCM_LONGEST_NAME = 32, SCM_MOST_CELLS = 64 };
 

@@ -75,7 +75,7 @@ static bool refutes(scm_monitor *monitor) {
     return false;
   /* the last line puts an operation before itself */
   bool is_cycle = evidence(monitor, SCM_LINES, lines - 1, SCM_FROM_PROCESS) == evidence(monitor, SCM_LINES, lines - 1, SCM_TO_PROCESS) &&
-                  evidence(monitor, SCM_LINES, lines - 1, SCM_FROM_AT) == evidence(monitor, SCM_LINES, lines - 1, SCM_TO_AT);
+                  evidence(monitor, SCM_LINES, lines - 1, SCM_FROM_AT) >= evidence(monitor, SCM_LINES, lines - 1, SCM_TO_AT);
   return is_cycle && scm_call(monitor, a, v, SCM_BACK, mark) == SCM_DONE && scm_ask(monitor, a, v) == SCM_CONSISTENT;
 }
 

@@ -1,9 +1,13 @@
 -- The evidence of a reply, as the rows of numbers that C reads.
 use Rattle.std.specs.Prelude.{ℕ, ◌==◌, if◌then◌else◌, List, [], ◌∷◌, map, Option, None, Some, option_and_then, slice_get}
 use Rattle.scm_frontier.specs.Situated.{Situated}
-use Rattle.scm_orders.specs.declared.edge.Edge.{Edge}
-use Rattle.scm_orders.specs.declared.edge.Reason.{Reason}
-use Rattle.scm_orders.specs.declared.edge.Reason.TheVariants.{Program, Source, Initial, Joined, Hidden, AfterSource, BeforeNext}
+use Rattle.scm_orders.specs.declared.place.Place.{Place}
+use Rattle.scm_orders.specs.declared.derivation.Fact.{Fact}
+use Rattle.scm_orders.specs.declared.derivation.Fact.TheVariants.{Before, Sees, SeesFirst, Hidden}
+use Rattle.scm_orders.specs.declared.derivation.Rule.{Rule}
+use Rattle.scm_orders.specs.declared.derivation.Rule.TheVariants.{Joined, Hidden as HiddenBy, Source, AfterAll, BeforeAll, AfterSource}
+use Rattle.scm_orders.specs.declared.derivation.Line.{Line}
+use Rattle.scm_orders.specs.Refuting.{hints_of}
 use Rattle.scm_book.specs.Calls.{ReplyData, reply_data, done, marked, consistent, inconsistent, undecided, because, cycle, unknown, ops, listed, refused}
 use Rattle.scm_sessions.specs.declared.replies.Answer.{Answer}
 use Rattle.scm_embed.specs.declared.evidence.Piece.{Piece}
@@ -29,24 +33,39 @@ content_piece (Some value) = Number value
 abbrev pub contents_row : Situated → List Piece
 contents_row s = map content_piece s.contents
 
--- the number of a reason, and those of the lines that it names, 0 where it names none
-abbrev pub reason_numbers : Reason → ℕ × ℕ × ℕ
-reason_numbers Program = (0, 0, 0)
-reason_numbers Source = (1, 0, 0)
-reason_numbers Initial = (2, 0, 0)
-reason_numbers (Joined first second) = (3, first, second)
-reason_numbers (Hidden first second) = (4, first, second)
-reason_numbers (AfterSource source before) = (5, source, before)
-reason_numbers (BeforeNext source before) = (6, source, before)
+-- where no operation stands
+abbrev pub nowhere : Place
+nowhere = record { process = 0; at = 0 }
 
--- a line of a short refutation: the process and the place of its two operations, and the reason
-abbrev pub line_numbers : Edge → List ℕ
-line_numbers edge =
-    let reason = reason_numbers edge.reason in
-    edge.from.process ∷ edge.from.at ∷ edge.to.process ∷ edge.to.at ∷ reason.0 ∷ reason.1 ∷ reason.2 ∷ []
+-- the number of what a line says, and its two operations, the first one nowhere where there is none
+abbrev pub fact_parts : Fact → ℕ × Place × Place
+fact_parts (Before from to) = (0, from, to)
+fact_parts (Sees write read) = (1, write, read)
+fact_parts (SeesFirst read) = (2, nowhere, read)
+fact_parts (Hidden write read) = (3, write, read)
 
-abbrev pub line_row : Edge → List Piece
-line_row edge = map Number (line_numbers edge)
+-- the number of a rule, and the operation that hides, nowhere where there is none
+abbrev pub rule_parts : Rule → ℕ × Place
+rule_parts Joined = (0, nowhere)
+rule_parts (HiddenBy by) = (1, by)
+rule_parts Source = (2, nowhere)
+rule_parts AfterAll = (3, nowhere)
+rule_parts BeforeAll = (4, nowhere)
+rule_parts AfterSource = (5, nowhere)
+
+-- a line of a short refutation: what it says of which two operations, by which rule, and what hides
+abbrev pub line_numbers : Line → List ℕ
+line_numbers line =
+    let says = fact_parts line.fact in
+    let rule = rule_parts line.rule in
+    says.0 ∷ says.1.process ∷ says.1.at ∷ says.2.process ∷ says.2.at ∷ rule.0 ∷ rule.1.process ∷ rule.1.at ∷ []
+
+abbrev pub line_row : Line → List Piece
+line_row line = map Number (line_numbers line)
+
+-- the earlier lines that a line goes by, among the hints of all lines
+abbrev pub hints_row : List ℕ → Line → List Piece
+hints_row hints line = map Number (hints_of hints line)
 
 -- the rows of this part of a reply, None where it has no such part
 abbrev pub rows_of : ReplyData → ℕ → Option (List (List Piece))
@@ -59,7 +78,10 @@ rows_of (because situations) part =
     else if part == 3 then Some (map contents_row situations)
     else None
 rows_of (marked mark) part = if part == 4 then Some (number_row mark ∷ []) else None
-rows_of (cycle edges) part = if part == 5 then Some (map line_row edges) else None
+rows_of (cycle lines hints) part =
+    if part == 5 then Some (map line_row lines)
+    else if part == 6 then Some (map (hints_row hints) lines)
+    else None
 rows_of done part = None
 rows_of inconsistent part = None
 rows_of undecided part = None

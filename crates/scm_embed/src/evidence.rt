@@ -1,13 +1,12 @@
 //! The evidence of a reply, number by number: a schedule and its fixed values, or a refutation of either kind.
 ghost use Rattle.std.specs.Prelude.{◌≡◌, ◌∷◌, [], length, map, slice_get, option_map};
 ghost use Rattle.scm_book.specs.Calls.{reply_data};
-ghost use Rattle.scm_embed.specs.Evidence.{rows_of, piece_at, number_row, fixed_row, counts_row, contents_row, line_row};
+ghost use Rattle.scm_embed.specs.Evidence.{rows_of, piece_at, number_row, fixed_row, counts_row, contents_row};
 
-use crate::lines::line_field;
+use crate::lines::{hint_piece, line_piece};
 use scm_book::Reply;
 use scm_cells::Name;
 use scm_frontier::Situation;
-use scm_orders::Edge;
 
 /// What stands in a field of a row.
 #[derive(Clone, Copy, Debug, PartialEq, Eq)]
@@ -20,7 +19,8 @@ pub(crate) enum Piece {
 }
 
 /// How many rows this part of a reply has, `None` where it has no such part: 0 the processes of a schedule, 1 its fixed values,
-/// 2 the counts and 3 the contents of situations, 4 the number of a mark, 5 the lines of a short refutation.
+/// 2 the counts and 3 the contents of situations, 4 the number of a mark, 5 the lines of a
+/// short refutation, 6 the hints of each.
 pub(crate) fn count_rows(reply: &Reply, part: u32) -> Option<usize>
     ensures { result ≡ option_map length (rows_of (reply_data reply.now) part) }
 {
@@ -29,7 +29,7 @@ pub(crate) fn count_rows(reply: &Reply, part: u32) -> Option<usize>
         (Reply::Consistent { fixed, .. }, 1) => Some(fixed.len()),
         (Reply::Because(situations), 2 | 3) => Some(situations.len()),
         (Reply::MarkSet(_), 4) => Some(1),
-        (Reply::Cycle(edges), 5) => Some(edges.len()),
+        (Reply::Cycle(derivation), 5 | 6) => Some(derivation.lines.len()),
         _ => None,
     }
 }
@@ -86,12 +86,6 @@ fn content_piece(situations: &[Situation], row: usize, cell: usize) -> Option<Pi
     })
 }
 
-fn line_piece(edges: &[Edge], row: usize, field: usize) -> Option<Piece>
-    ensures { result ≡ piece_at (map line_row edges.now) row field }
-{
-    line_field(edges.get(row)?, field)
-}
-
 fn mark_piece(mark: u64, row: usize, field: usize) -> Option<Piece>
     ensures { result ≡ piece_at (number_row mark ∷ []) row field }
 {
@@ -116,7 +110,8 @@ pub(crate) fn read_piece(
         (Reply::Because(situations), 2) => count_piece(situations, row, field),
         (Reply::Because(situations), 3) => content_piece(situations, row, field),
         (Reply::MarkSet(mark), 4) => mark_piece(*mark, row, field),
-        (Reply::Cycle(edges), 5) => line_piece(edges, row, field),
+        (Reply::Cycle(it), 5) => line_piece(&it.lines, row, field),
+        (Reply::Cycle(it), 6) => hint_piece(&it.lines, &it.hints, row, field),
         _ => return None,
     })
 }
