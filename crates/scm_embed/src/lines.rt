@@ -81,12 +81,7 @@ fn hint_field(line: Line, hints: &[u32], place: usize) -> Option<Piece>
 }
 
 /// The hint at this place of one of the lines.
-pub(crate) fn hint_piece(
-    lines: &[Line],
-    hints: &[u32],
-    row: usize,
-    place: usize,
-) -> Option<Piece>
+pub(crate) fn hint_piece(lines: &[Line], hints: &[u32], row: usize, place: usize) -> Option<Piece>
     ensures { result ≡ piece_at (map (hints_row hints.now) lines.now) row place }
 {
     hint_field(*lines.get(row)?, hints, place)

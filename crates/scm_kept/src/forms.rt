@@ -233,7 +233,15 @@ fn read_on(rt: &impl Abort, alloc: Global, is_packed: bool) {
 /// Read `i` of these.
 fn read_once(rt: &impl Abort, alloc: Global, asked: &mut Asked, i: u8, is_packed: bool) {
     assert!(rt; asked.sequences().procs() == 16);
-    asked.report(rt, 15, if i < 10 { read(2, 9) } else { read(23, u64::from(i)) });
+    asked.report(
+        rt,
+        15,
+        if i < 10 {
+            read(2, 9)
+        } else {
+            read(23, u64::from(i))
+        },
+    );
     if is_packed {
         asked.pack(rt, alloc);
     }
