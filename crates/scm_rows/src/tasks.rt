@@ -48,25 +48,33 @@ fn expand_all(
     Ok(outcomes)
 }
 
-/// Workers go over two processes of 40 stores round by round. In round k each of the k situations with k - 1 operations has
-/// two tasks, and all come though a hundred were asked for; they lead to k + 1 new situations.
+/// In round k each of the k situations with k - 1 operations has two tasks, and all come though a hundred are asked for; they
+/// lead to k + 1 new situations.
+fn work_round(rt: &impl Abort, alloc: Global, book: &mut Book, round: usize) {
+    let tasks = book.take(100).expect(rt, "memory");
+    assert!(rt; tasks.len() == 2 * round);
+    let outcomes = expand_all(rt, alloc, tasks).expect(rt, "memory");
+    let delivered = book.deliver(outcomes);
+    assert!(rt; delivered.accepted == round as u64 + 1 && delivered.known == round as u64 - 1);
+}
+
+/// The book holds what forty rounds left, and no event changes nothing.
+fn assert_worked_off(rt: &impl Abort, book: &Book) {
+    assert!(rt; book.entries().len() == 83 && book.results().taken == 1640);
+}
+
+/// Workers go over two processes of 40 stores round by round.
 #[test]
 fn more_tasks_than_are_there(rt: HostRuntime) -> Result<(), Fail> {
     let script = grid(rt.alloc(), 40)?;
     let mut book = book_after(&rt, rt.alloc(), script.as_bytes());
     for round in 1..=40 {
-        let tasks = book.take(100)?;
-        assert_eq!(rt; tasks.len(), 2 * round);
-        let delivered = book.deliver(expand_all(&rt, rt.alloc(), tasks)?);
-        assert_eq!(rt; delivered.accepted, round as u64 + 1);
-        assert_eq!(rt; delivered.known, round as u64 - 1);
+        work_round(&rt, rt.alloc(), &mut book, round);
     }
-
     let Ok((book, replies)) = run_events(rt.alloc(), book, Vec::new(rt.alloc())) else {
         return Err("no memory for no event".into());
     };
     assert!(rt; replies.is_empty());
-    assert_eq!(rt; book.entries().len(), 83);
-    assert_eq!(rt; book.results().taken, 1640);
+    assert_worked_off(&rt, &book);
     Ok(())
 }
