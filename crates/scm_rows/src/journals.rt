@@ -1,6 +1,7 @@
 //! The journal as it is written, to a writer that fails too.
-ghost use Rattle.std.specs.Prelude.{◌≡◌, false};
+ghost use Rattle.std.specs.Prelude.{◌≡◌, false, IfOk};
 ghost use Rattle.scm_sessions.specs.Ports.{has_failed};
+ghost use Rattle.scm_sessions.specs.JournalText.{AreNamed};
 
 use crate::fakes::{StepWriter, Wire};
 use scm_book::Book;
@@ -31,7 +32,9 @@ fn port_of(alloc: Global, wire: &Wire, limit: usize) -> Port<StepWriter<'_>>
 }
 
 /// The book and the names of a run over the script, whose replies go over the wire.
-fn run(alloc: Global, wire: &Wire) -> Result<(Book, Vec<Name>), RunFault> {
+fn run(alloc: Global, wire: &Wire) -> Result<(Book, Vec<Name>), RunFault>
+    ensures { IfOk result (λ run. AreNamed run.1.items run.0.journal) }
+{
     let mut reader = Port::new(SCRIPT.as_bytes());
     let mut replies = port_of(alloc, wire, usize::MAX);
     run_script(
@@ -47,24 +50,27 @@ fn run(alloc: Global, wire: &Wire) -> Result<(Book, Vec<Name>), RunFault> {
 fn written(
     alloc: Global,
     wire: &Wire,
-    run: &(Book, Vec<Name>),
+    book: &Book,
+    names: &[Name],
     limit: usize,
-) -> (Result<(), RunFault>, Vec<u8>) {
+) -> (Result<(), RunFault>, Vec<u8>)
+    requires { AreNamed names.now book.now.journal }
+{
     let mut writer = port_of(alloc, wire, limit);
-    let ended = write_journal(&mut writer, &run.0, &run.1);
+    let ended = write_journal(&mut writer, book, names);
     (ended, writer.into_inner().taken)
 }
 
 #[test]
 fn a_run_has_its_journal(rt: HostRuntime) -> Result<(), Fail> {
     let wire = Wire::new();
-    let run = run(rt.alloc(), &wire)?;
-    let (ended, taken) = written(rt.alloc(), &wire, &run, usize::MAX);
+    let (book, names) = run(rt.alloc(), &wire)?;
+    let (ended, taken) = written(rt.alloc(), &wire, &book, &names, usize::MAX);
     assert!(rt; ended == Ok(()) && taken.as_slice() == JOURNAL.as_bytes());
     // the wire counts the lines of the replies and those of the journal
     assert_eq!(rt; wire.replies_flushed.get(), 11);
     for limit in 0..=JOURNAL.len() {
-        let (ended, taken) = written(rt.alloc(), &wire, &run, limit);
+        let (ended, taken) = written(rt.alloc(), &wire, &book, &names, limit);
         assert!(rt;
             ended == Err(RunFault::WriteFailed) && taken.len() == limit,
             "at {limit}"
