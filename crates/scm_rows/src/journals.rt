@@ -1,9 +1,11 @@
 //! The journal as it is written, to a writer that fails too.
-ghost use Rattle.std.specs.Prelude.{◌≡◌, false};
+ghost use Rattle.std.specs.Prelude.{◌≡◌, false, IfOk};
 ghost use Rattle.scm_sessions.specs.Ports.{has_failed};
+ghost use Rattle.scm_sessions.specs.JournalText.{AreNamed};
 
 use crate::fakes::{StepWriter, Wire};
 use scm_book::Book;
+use scm_cells::Name;
 use scm_sessions::{Findings, Port, RunFault, run_script, write_journal};
 use std::alloc::Global;
 use std::test::Fail;
@@ -29,33 +31,51 @@ fn port_of(alloc: Global, wire: &Wire, limit: usize) -> Port<StepWriter<'_>>
     })
 }
 
-#[test]
-fn a_run_has_its_journal(rt: HostRuntime) -> Result<(), Fail> {
-    let wire = Wire::new();
+/// The book and the names of a run over the script, whose replies go over the wire.
+fn run(alloc: Global, wire: &Wire) -> Result<(Book, Vec<Name>), RunFault>
+    ensures { IfOk result (λ run. AreNamed run.1.items run.0.journal) }
+{
     let mut reader = Port::new(SCRIPT.as_bytes());
-    let mut replies = port_of(rt.alloc(), &wire, usize::MAX);
-    let (book, names) = run_script(
-        rt.alloc(),
-        Book::new(rt.alloc()),
+    let mut replies = port_of(alloc, wire, usize::MAX);
+    run_script(
+        alloc,
+        Book::new(alloc),
         &mut reader,
         &mut replies,
         &mut Findings::new(),
-    )?;
+    )
+}
 
-    let mut writer = port_of(rt.alloc(), &wire, usize::MAX);
-    assert_eq!(rt; write_journal(&mut writer, &book, &names), Ok(()));
-    assert_eq!(rt; writer.into_inner().taken.as_slice(), JOURNAL.as_bytes());
+/// What `write_journal` answers, and the bytes that a writer takes of it which fails after `limit`.
+fn written(
+    alloc: Global,
+    wire: &Wire,
+    book: &Book,
+    names: &[Name],
+    limit: usize,
+) -> (Result<(), RunFault>, Vec<u8>)
+    requires { AreNamed names.now book.now.journal }
+{
+    let mut writer = port_of(alloc, wire, limit);
+    let ended = write_journal(&mut writer, book, names);
+    (ended, writer.into_inner().taken)
+}
+
+#[test]
+fn a_run_has_its_journal(rt: HostRuntime) -> Result<(), Fail> {
+    let wire = Wire::new();
+    let (book, names) = run(rt.alloc(), &wire)?;
+    let (ended, taken) = written(rt.alloc(), &wire, &book, &names, usize::MAX);
+    assert!(rt; ended == Ok(()) && taken.as_slice() == JOURNAL.as_bytes());
     // the wire counts the lines of the replies and those of the journal
     assert_eq!(rt; wire.replies_flushed.get(), 11);
-
     for limit in 0..=JOURNAL.len() {
-        let mut writer = port_of(rt.alloc(), &wire, limit);
-        let failed = write_journal(&mut writer, &book, &names);
-        assert_eq!(rt; failed, Err(RunFault::WriteFailed), "at {limit}");
-        assert_eq!(rt;
-            writer.into_inner().taken.as_slice(),
-            &JOURNAL.as_bytes()[..limit]
+        let (ended, taken) = written(rt.alloc(), &wire, &book, &names, limit);
+        assert!(rt;
+            ended == Err(RunFault::WriteFailed) && taken.len() == limit,
+            "at {limit}"
         );
+        assert!(rt; JOURNAL.as_bytes().starts_with(&taken), "at {limit}");
     }
     Ok(())
 }

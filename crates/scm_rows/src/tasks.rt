@@ -48,6 +48,21 @@ fn expand_all(
     Ok(outcomes)
 }
 
+/// A hundred tasks, or as many as there are, are taken and delivered: how many they were, how many of them led to new
+/// situations, and how many to known ones.
+fn work_round(rt: &impl Abort, alloc: Global, book: &mut Book) -> (usize, u64, u64) {
+    let tasks = book.take(100).expect(rt, "memory");
+    let taken = tasks.len();
+    let outcomes = expand_all(rt, alloc, tasks).expect(rt, "memory");
+    let delivered = book.deliver(outcomes);
+    (taken, delivered.accepted, delivered.known)
+}
+
+/// The book holds what forty rounds left, and no event changes nothing.
+fn assert_worked_off(rt: &impl Abort, book: &Book) {
+    assert!(rt; book.entries().len() == 83 && book.results().taken == 1640);
+}
+
 /// Workers go over two processes of 40 stores round by round. In round k each of the k situations with k - 1 operations has
 /// two tasks, and all come though a hundred were asked for; they lead to k + 1 new situations.
 #[test]
@@ -55,18 +70,15 @@ fn more_tasks_than_are_there(rt: HostRuntime) -> Result<(), Fail> {
     let script = grid(rt.alloc(), 40)?;
     let mut book = book_after(&rt, rt.alloc(), script.as_bytes());
     for round in 1..=40 {
-        let tasks = book.take(100)?;
-        assert_eq!(rt; tasks.len(), 2 * round);
-        let delivered = book.deliver(expand_all(&rt, rt.alloc(), tasks)?);
-        assert_eq!(rt; delivered.accepted, round as u64 + 1);
-        assert_eq!(rt; delivered.known, round as u64 - 1);
+        let (taken, accepted, known) = work_round(&rt, rt.alloc(), &mut book);
+        assert!(rt;
+            taken == 2 * round && accepted == round as u64 + 1 && known == round as u64 - 1
+        );
     }
-
     let Ok((book, replies)) = run_events(rt.alloc(), book, Vec::new(rt.alloc())) else {
         return Err("no memory for no event".into());
     };
     assert!(rt; replies.is_empty());
-    assert_eq!(rt; book.entries().len(), 83);
-    assert_eq!(rt; book.results().taken, 1640);
+    assert_worked_off(&rt, &book);
     Ok(())
 }
