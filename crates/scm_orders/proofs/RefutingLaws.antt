@@ -12,9 +12,9 @@ use Rattle.scm_orders.specs.declared.derivation.Rule.{Rule}
 use Rattle.scm_orders.specs.declared.derivation.Rule.TheVariants.{Joined, Hidden as HiddenBy, Source, AfterAll, BeforeAll, AfterSource, Assumed, Lemma}
 use Rattle.scm_orders.specs.Facts.{IsContradiction}
 use Rattle.scm_orders.specs.Moments.{Says, AssumptionsHold}
-use Rattle.scm_orders.specs.Blocks.{IsAssumed, IsOpen, opened, IsBehind, IsVisible}
+use Rattle.scm_orders.specs.Blocks.{IsAssumed, opened, IsBehind, IsVisible}
 use Rattle.scm_orders.specs.Lemmas.{Assumes, LeavesOne, IsLemma}
-use Rattle.scm_orders.specs.Following.{IsOf, IsNamed, FollowsBy, Follows}
+use Rattle.scm_orders.specs.Following.{IsOf, FollowsBy, Follows}
 use Rattle.scm_orders.specs.Refuting.{hints_of, AllFollow, IsEnd, Refutes}
 use Rattle.scm_orders.proofs.PlaceLaws.{none_is}
 use Rattle.scm_orders.proofs.RuleLaws.{Holds, AreKnown, drawn, lemma_rule, contradicts}
