@@ -11,12 +11,13 @@ use crate::{Derivation, Line};
 use scm_sequences::{Lengths, Sequences};
 
 /// Whether this derivation refutes the trace with these first contents and these sequences, cut to these lengths: each line
-/// follows from the trace and the lines before it, and the last one puts an operation before itself. Then the trace has
-/// no legal schedule.
+/// follows from the trace and the lines before it, and the last one puts an operation before itself outside of blocks. Then
+/// the trace has no legal schedule.
 ///
-/// The derivation is data: a place beyond the lengths, hints that aren't there or aren't numbers of earlier lines, or a rule
-/// that doesn't hold refute nothing. It takes no memory. A line that tells what a read can see costs a look at each operation,
-/// and at the hints, at most 255, for each write of the value that was read; every other line costs a look at its hints.
+/// The derivation is data: a place beyond the lengths, hints that aren't there or can't be named, a block in which its line
+/// isn't to stand, or a rule that doesn't hold refute nothing. It takes no memory. A line that tells what a read can see costs a
+/// look at each operation, and at the hints, at most 255, for each write of the value that was read; every other line costs a
+/// look at its hints, and where a lemma leaves it at as many assumptions and one more.
 pub fn orders_refute(
     initials: &[Option<u64>],
     sequences: &Sequences,
