@@ -43,6 +43,7 @@ impl Lines {
             rule,
             first,
             count,
+            block: None,
         };
         self.derivation.lines.push(line).ok()?;
         Some(number)
