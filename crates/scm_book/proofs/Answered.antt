@@ -1,11 +1,12 @@
 -- A list of events is answered event by event, and the replies to its calls are a run of the machine.
-use Rattle.std.proofs.Common.{◌≡◌, ◌≤◌, ℕ, Bool, true, false, cond, List, [], ◌∷◌, ◌++◌, length, Option, None, Some, refl, sym, ap, ◌∙◌, subst, arith}
+use Rattle.std.proofs.Common.{◌≡◌, ◌≤◌, ℕ, Bool, true, false, cond, List, [], ◌∷◌, ◌++◌, length, Option, None, Some, MatchOption, refl, sym, ap, ◌∙◌, subst, arith}
 use Rattle.std.proofs.lemmas.List.{length-append}
 use Rattle.scm_expand.specs.Outcomes.{Expanded}
-use Rattle.scm_book.specs.Calls.{ReplyData, CallData, EventData, call_by, takes, delivers}
+use Rattle.scm_book.specs.Calls.{ReplyData, CallData}
 use Rattle.scm_book.specs.Runs.{Answered, IsRun}
-use Rattle.scm_book.specs.Journal.{BookState, makes_entry}
-use Rattle.scm_book.specs.Events.{IsAnswered, with_reply, AnswersAll, steps_of}
+use Rattle.scm_book.specs.Journal.{BookState, makes_entry, IsUnchanged}
+use Rattle.scm_book.specs.Inquiries.{Inquired, IsLent, IsLentForWork}
+use Rattle.scm_book.specs.Events.{EventData, call_by, takes, delivers, lends, lends_work, takes_back, IsAnswered, with_reply, AnswersAll, steps_of}
 
 with_reply-append : (reply : Option ReplyData) (replies more : List ReplyData) → with_reply reply replies ++ more ≡ with_reply reply (replies ++ more)
 with_reply-append None replies more = refl
@@ -30,17 +31,36 @@ AnswersAll-more old mid new (first ∷ events) replies event reply answers answe
   ap (λ rs. rs ++ with_reply reply []) answers.5 ∙ with_reply-append answers.1 answers.2 (with_reply reply []),
 )
 
--- what workers take and deliver gets no reply, and the run goes on from the same machine
+-- a loan leaves journal and machine as they were, whether a set was lent or not
+lent-unchanged : (old new : BookState) (lent : Option Inquired) (Lent : Inquired → Type 0) → ((q : Inquired) → Lent q → IsUnchanged old new) → MatchOption lent (new ≡ old) Lent → IsUnchanged old new
+lent-unchanged old new None Lent unchanged same = record { journal = ap (λ (b : BookState). b.journal) same; machine = ap (λ (b : BookState). b.machine) same }
+lent-unchanged old new (Some q) Lent unchanged lent = unchanged q lent
+
+-- an event that is no call gets no reply, and the run goes on from the same machine
 module _ (old mid new : BookState) (events : List EventData) (replies others : List ReplyData) where
-  taken-run : (n : ℕ) (reply : Option ReplyData) → IsAnswered old (takes n) reply mid → replies ≡ with_reply reply others → IsRun mid.machine (steps_of events others) new.machine → IsRun old.machine (steps_of events replies) new.machine
-  taken-run n None answered are rest =
-      subst (λ rs. IsRun old.machine (steps_of events rs) new.machine) (sym are) (subst (λ m. IsRun m (steps_of events others) new.machine) answered.1.unchanged.machine rest)
+  idle-run : (event : EventData) → IsUnchanged old mid → steps_of (event ∷ events) replies ≡ steps_of events replies → replies ≡ others → IsRun mid.machine (steps_of events others) new.machine → IsRun old.machine (steps_of (event ∷ events) replies) new.machine
+  idle-run event unchanged skipped are rest =
+      subst (λ steps. IsRun old.machine steps new.machine) (sym (skipped ∙ ap (steps_of events) are)) (subst (λ m. IsRun m (steps_of events others) new.machine) unchanged.machine rest)
+
+  taken-run : (n : ℕ) (reply : Option ReplyData) → IsAnswered old (takes n) reply mid → replies ≡ with_reply reply others → IsRun mid.machine (steps_of events others) new.machine → IsRun old.machine (steps_of (takes n ∷ events) replies) new.machine
+  taken-run n None answered are rest = idle-run (takes n) answered.1.unchanged refl are rest
   taken-run n (Some reply) answered are rest = absurd answered
 
-  delivered-run : (outcomes : List Expanded) (reply : Option ReplyData) → IsAnswered old (delivers outcomes) reply mid → replies ≡ with_reply reply others → IsRun mid.machine (steps_of events others) new.machine → IsRun old.machine (steps_of events replies) new.machine
-  delivered-run outcomes None answered are rest =
-      subst (λ rs. IsRun old.machine (steps_of events rs) new.machine) (sym are) (subst (λ m. IsRun m (steps_of events others) new.machine) answered.1.unchanged.machine rest)
+  delivered-run : (outcomes : List Expanded) (reply : Option ReplyData) → IsAnswered old (delivers outcomes) reply mid → replies ≡ with_reply reply others → IsRun mid.machine (steps_of events others) new.machine → IsRun old.machine (steps_of (delivers outcomes ∷ events) replies) new.machine
+  delivered-run outcomes None answered are rest = idle-run (delivers outcomes) answered.1.unchanged refl are rest
   delivered-run outcomes (Some reply) answered are rest = absurd answered
+
+  lent-run : (call : CallData) (reply : Option ReplyData) → IsAnswered old (lends call) reply mid → replies ≡ with_reply reply others → IsRun mid.machine (steps_of events others) new.machine → IsRun old.machine (steps_of (lends call ∷ events) replies) new.machine
+  lent-run call None answered are rest = idle-run (lends call) (lent-unchanged old mid answered.0 (λ q. IsLent old call q mid) (λ q lent. lent.unchanged) answered.1) refl are rest
+  lent-run call (Some reply) answered are rest = absurd answered
+
+  lent_work-run : (reply : Option ReplyData) → IsAnswered old lends_work reply mid → replies ≡ with_reply reply others → IsRun mid.machine (steps_of events others) new.machine → IsRun old.machine (steps_of (lends_work ∷ events) replies) new.machine
+  lent_work-run None answered are rest = idle-run lends_work (lent-unchanged old mid answered.0 (λ q. IsLentForWork old q mid) (λ q lent. lent.unchanged) answered.1) refl are rest
+  lent_work-run (Some reply) answered are rest = absurd answered
+
+  taken_back-run : (inquiry : Inquired) (reply : Option ReplyData) → IsAnswered old (takes_back inquiry) reply mid → replies ≡ with_reply reply others → IsRun mid.machine (steps_of events others) new.machine → IsRun old.machine (steps_of (takes_back inquiry ∷ events) replies) new.machine
+  taken_back-run inquiry None answered are rest = idle-run (takes_back inquiry) answered.unchanged refl are rest
+  taken_back-run inquiry (Some reply) answered are rest = absurd answered
 
 -- a call is a step of the machine where its reply makes an entry
 module _ (old mid new : BookState) (session : ℕ) (call : CallData) (events : List EventData) (replies others : List ReplyData) where
@@ -65,6 +85,12 @@ steps_of-run old new (takes n ∷ events) replies answers =
     taken-run old answers.0 new events replies answers.2 n answers.1 answers.3 answers.5 (steps_of-run answers.0 new events answers.2 answers.4)
 steps_of-run old new (delivers outcomes ∷ events) replies answers =
     delivered-run old answers.0 new events replies answers.2 outcomes answers.1 answers.3 answers.5 (steps_of-run answers.0 new events answers.2 answers.4)
+steps_of-run old new (lends call ∷ events) replies answers =
+    lent-run old answers.0 new events replies answers.2 call answers.1 answers.3 answers.5 (steps_of-run answers.0 new events answers.2 answers.4)
+steps_of-run old new (lends_work ∷ events) replies answers =
+    lent_work-run old answers.0 new events replies answers.2 answers.1 answers.3 answers.5 (steps_of-run answers.0 new events answers.2 answers.4)
+steps_of-run old new (takes_back inquiry ∷ events) replies answers =
+    taken_back-run old answers.0 new events replies answers.2 inquiry answers.1 answers.3 answers.5 (steps_of-run answers.0 new events answers.2 answers.4)
 
 -- what was answered so far, with room for a reply to each event
 pub record HasAnswered (old : BookState) (events : List EventData) (replies : List ReplyData) (new : BookState) (all room : ℕ) : Type 0 where

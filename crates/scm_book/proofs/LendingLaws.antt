@@ -1,12 +1,17 @@
 -- Questions that are lent by a trace and taken back.
-use Rattle.std.proofs.Common.{ℕ, ◌≡◌, ◌<◌, ◌≤◌, ◌^◌, List, length, Option, None, Some, Ok, MatchOption, sym, ap, ◌∙◌, subst, arith}
+use Rattle.std.proofs.Common.{ℕ, ◌≡◌, ◌+◌, ◌<◌, ◌≤◌, ◌^◌, Bool, true, false, not, nat_eq, List, [], ◌∷◌, ◌++◌, length, take, get_or, slice_get, Option, None, Some, IsSomeAnd, Ok, MatchOption, refl, sym, ap, ◌∙◌, subst, arith}
+use Rattle.std.specs.Option.{option_eq}
+use Rattle.std.proofs.lemmas.List.{get_or-map, take_more}
 use Rattle.std.specs.Map.{set_value}
 use Rattle.std.proofs.lemmas.Map.Steps.{set_value_same}
 use Rattle.scm_sequences.specs.Traces.{trace_of}
 use Rattle.scm_cells.specs.Names.{name_eq}
-use Rattle.scm_cells.specs.CellLists.{initials_of}
+use Rattle.scm_cells.specs.declared.width.Width.TheVariants.{W}
+use Rattle.scm_cells.specs.CellLists.{Declared, initials_of}
 use Rattle.scm_cells.specs.CellLaws.{length-initials_of}
+use Rattle.scm_frontier.specs.Comparisons.{option_eq-Decides}
 use Rattle.scm_reach.specs.Kept.{Kept, IsKept}
+use Rattle.scm_reach.specs.MemberLaws.{at_from_IsSomeAnd}
 use Rattle.scm_book.specs.Asking.{CanAsk}
 use Rattle.scm_book.specs.Inquiries.{Inquired, CanSearch, Lends, IsLentOf, TakesBack, IsTakenBack}
 use Rattle.scm_book.specs.Machine.{Machine, TraceState, trace_named}
@@ -29,6 +34,24 @@ can_search state mark name lengths limit set budget is sound for room =
       few = can.few;
       room = omega (arith, can.room);
     }
+
+-- what one cell more holds at first is the same
+pub take-initials : (cells : List Declared) (initials : List (Option ℕ)) (c : ℕ) (held : Option ℕ) → length cells ≡ length initials → c < length initials → take c initials ≡ take c (initials_of cells)
+    → IsSomeAnd (slice_get cells c) (λ cell. held ≡ cell.initial) → false ≡ not (option_eq nat_eq held (get_or initials c None)) → take (c + 1) initials ≡ take (c + 1) (initials_of cells)
+take-initials cells initials c held as_many within same holds is =
+    take_more initials c None within ∙ (λ i. same i ++ next i ∷ []) ∙ sym (take_more (initials_of cells) c None (omega (arith, within, as_many, length-initials_of cells))) where
+      any : Declared
+      any = record { name = []; width = W; initial = None }
+
+      here : (c < length cells) × (held ≡ (get_or cells c any).initial)
+      here = at_from_IsSomeAnd (λ cell. held ≡ cell.initial) cells c any holds
+
+      equal : (b : Bool) → option_eq nat_eq held (get_or initials c None) ≡ b → held ≡ get_or initials c None
+      equal true same = (option_eq-Decides held (get_or initials c None)).0 same
+      equal false other = let f : false ≡ true = is ∙ ap not other in cc
+
+      next : get_or initials c None ≡ get_or (initials_of cells) c None
+      next = sym (equal (option_eq nat_eq held (get_or initials c None)) refl) ∙ here.1 ∙ sym (get_or-map (λ cell. cell.initial) cells c any None here.0)
 
 -- the start alone is kept for the trace
 pub IsKeptFor-start : (state : TraceState) (start : Kept) → IsSoundTrace state → start.initials ≡ initials_of state.cells → length start.members ≡ 1 → IsKept (trace_of (initials_of state.cells) state.sequences) start.members → IsKeptFor state start

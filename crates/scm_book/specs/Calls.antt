@@ -3,7 +3,6 @@ use Rattle.std.specs.Prelude.{ℕ, List, Option, Result, Ok, Err}
 use Rattle.scm_sequences.specs.declared.refusal.Refusal.{Refusal}
 use Rattle.scm_lowering.specs.declared.access.Access.{Access}
 use Rattle.scm_frontier.specs.Situated.{Situated}
-use Rattle.scm_expand.specs.Outcomes.{Expanded}
 use Rattle.scm_orders.specs.declared.derivation.Line.{Line}
 use Rattle.scm_book.specs.declared.call.Decl.{Decl}
 use Rattle.scm_book.specs.declared.call.Call.{Call}
@@ -12,8 +11,6 @@ use Rattle.scm_book.specs.declared.reply.Shown.{Shown}
 use Rattle.scm_book.specs.declared.reply.Reply.{Reply}
 use Rattle.scm_book.specs.declared.reply.Reply.TheVariants.{Done, MarkSet, Consistent, Inconsistent, Undecided, Because, Cycle as CycleFound, Unknown, Ops, Traces, Refused}
 use Rattle.scm_book.specs.declared.entry.Entry.{Entry}
-use Rattle.scm_book.specs.declared.event.Event.{Event}
-use Rattle.scm_book.specs.declared.event.Event.TheVariants.{CallBy, Take, Deliver}
 
 pub data CallData : Type 0 where
   -- the trace's name, its number of processes, its budget and its cells
@@ -65,14 +62,6 @@ pub record EntryData : Type 0 where
   pub call : CallData
   pub reply : ReplyData
 
-pub data EventData : Type 0 where
-  -- a session and its call
-  call_by : ℕ → CallData → EventData
-  -- a worker takes at most so many tasks
-  takes : ℕ → EventData
-  -- outcomes are delivered
-  delivers : List Expanded → EventData
-
 abbrev pub call_data : Call → CallData
 call_data (OpenTrace name procs budget cells) = opens name procs budget cells.items
 call_data (ClaimProcess name process) = claims name process
@@ -113,8 +102,3 @@ entry_data entry = record {
   call = call_data entry.call;
   reply = reply_data entry.reply;
 }
-
-abbrev pub event_data : Event → EventData
-event_data (CallBy session call) = call_by session (call_data call)
-event_data (Take n) = takes n
-event_data (Deliver outcomes) = delivers outcomes.items

@@ -1,20 +1,48 @@
 -- A list of events, and what a book answers to it: one reply to each call, in order.
-use Rattle.std.specs.Prelude.{◌≡◌, List, [], ◌∷◌, Option, None, Some, if◌then◌else◌}
+use Rattle.std.specs.Prelude.{ℕ, ◌≡◌, List, [], ◌∷◌, Option, None, Some, if◌then◌else◌}
 use Rattle.scm_results.specs.declared.results.Results.{Results}
 use Rattle.scm_expand.specs.declared.task.Task.{Task}
-use Rattle.scm_book.specs.Calls.{ReplyData, EventData, call_by, takes, delivers}
+use Rattle.scm_expand.specs.Outcomes.{Expanded}
+use Rattle.scm_book.specs.declared.event.Event.{Event}
+use Rattle.scm_book.specs.declared.event.Event.TheVariants.{CallBy, Take, Deliver, Lend, LendWork, TakeBack}
+use Rattle.scm_book.specs.Calls.{CallData, ReplyData, call_data}
 use Rattle.scm_book.specs.Runs.{Answered}
 use Rattle.scm_book.specs.Journal.{BookState, makes_entry, IsCall}
 use Rattle.scm_book.specs.Workers.{IsTaking, IsDelivery}
+use Rattle.scm_book.specs.Inquiries.{Inquired, IsLending, IsLendingForWork, IsTakingBack}
 
--- an event leads from old to new: a call with its reply, what workers take and deliver with none
+pub data EventData : Type 0 where
+  -- a session and its call
+  call_by : ℕ → CallData → EventData
+  -- a worker takes at most so many tasks
+  takes : ℕ → EventData
+  -- outcomes are delivered
+  delivers : List Expanded → EventData
+  -- the question that a call asks is lent
+  lends : CallData → EventData
+  -- a set is lent for work
+  lends_work : EventData
+  -- what was lent comes back
+  takes_back : Inquired → EventData
+
+abbrev pub event_data : Event → EventData
+event_data (CallBy session call) = call_by session (call_data call)
+event_data (Take n) = takes n
+event_data (Deliver outcomes) = delivers outcomes.items
+event_data (Lend call) = lends (call_data call)
+event_data LendWork = lends_work
+event_data (TakeBack inquiry) = takes_back inquiry
+
+-- an event leads from old to new: a call with its reply, what is taken, delivered, lent and taken back with none
 abbrev pub IsAnswered : BookState → EventData → Option ReplyData → BookState → Type 0
 IsAnswered old (call_by session call) (Some reply) new = IsCall old session call reply new
 IsAnswered old (call_by session call) None new = ⊥
-IsAnswered old (takes n) (Some reply) new = ⊥
 IsAnswered old (takes n) None new = (given : Option (List Task)) × IsTaking old n given new
-IsAnswered old (delivers outcomes) (Some reply) new = ⊥
 IsAnswered old (delivers outcomes) None new = (delivered : Results) × IsDelivery old outcomes delivered new
+IsAnswered old (lends call) None new = (lent : Option Inquired) × IsLending old call lent new
+IsAnswered old lends_work None new = (lent : Option Inquired) × IsLendingForWork old lent new
+IsAnswered old (takes_back inquiry) None new = IsTakingBack old inquiry new
+IsAnswered old event (Some reply) new = ⊥
 
 -- the replies, with this one first if it is one
 abbrev pub with_reply : Option ReplyData → List ReplyData → List ReplyData
@@ -31,9 +59,8 @@ AnswersAll old (event ∷ events) replies new =
 -- the calls and replies that are steps of the machine: all but those refused for want of memory or for a full journal
 abbrev pub steps_of : List EventData → List ReplyData → List Answered
 steps_of [] replies = []
-steps_of (takes n ∷ events) replies = steps_of events replies
-steps_of (delivers outcomes ∷ events) replies = steps_of events replies
 steps_of (call_by session call ∷ events) [] = []
 steps_of (call_by session call ∷ events) (reply ∷ replies) =
     if makes_entry reply then record { session = session; call = call; reply = reply } ∷ steps_of events replies
     else steps_of events replies
+steps_of (event ∷ events) replies = steps_of events replies

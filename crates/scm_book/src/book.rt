@@ -180,7 +180,7 @@ impl Book {
 
     /// Takes a question back that was lent, whatever happened since. Where its trace is there, what it found out is kept as
     /// far as it is true of the trace as it stands, in place of what was found out meanwhile, if it is more and no more than
-    /// the budget allows. Neither machine nor journal changes. Where memory is refused nothing is taken.
+    /// the budget allows. Neither machine nor journal changes. It takes no memory.
     pub fn take_back(&mut self, inquiry: Inquiry)
         ensures taken { IsTakingBack self.old inquiry self.new }
         ensures legal { IsLegalBook self.new }

@@ -2,12 +2,12 @@
 ghost use Rattle.std.specs.Prelude.{◌≡◌, ◌<◌, ◌≤◌, ◌++◌, [], length, map, IfOk, IfErr};
 ghost use Rattle.std.specs.Vec.{vec_capacity};
 ghost use Rattle.std.specs.Option.{option_map};
-ghost use Rattle.scm_book.specs.Calls.{reply_data, event_data};
+ghost use Rattle.scm_book.specs.Calls.{reply_data};
 ghost use Rattle.scm_book.specs.Runs.{IsRun};
 ghost use Rattle.scm_book.specs.Journal.{IsLegalBook};
-ghost use Rattle.scm_book.specs.Events.{IsAnswered, AnswersAll, with_reply, steps_of};
+ghost use Rattle.scm_book.specs.Events.{event_data, IsAnswered, AnswersAll, with_reply, steps_of};
 
-use crate::{Book, Call, Reply};
+use crate::{Book, Call, Inquiry, Reply};
 use scm_expand::Outcome;
 use std::alloc::Global;
 
@@ -20,6 +20,12 @@ pub enum Event {
     Take(usize),
     /// Outcomes are delivered.
     Deliver(Vec<Outcome>),
+    /// The question that a call asks is lent, and dropped.
+    Lend(Call),
+    /// A set is lent for work, and dropped.
+    LendWork,
+    /// What was lent comes back: whenever, and of whatever book.
+    TakeBack(Inquiry),
 }
 
 /// The reply to an event, where it is a call.
@@ -35,6 +41,18 @@ fn answer(book: &mut Book, event: Event) -> Option<Reply>
         }
         Event::Deliver(outcomes) => {
             book.deliver(outcomes);
+            None
+        }
+        Event::Lend(call) => {
+            let _dropped = book.lend(&call);
+            None
+        }
+        Event::LendWork => {
+            let _dropped = book.lend_work();
+            None
+        }
+        Event::TakeBack(inquiry) => {
+            book.take_back(inquiry);
             None
         }
     }

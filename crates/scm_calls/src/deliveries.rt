@@ -219,7 +219,7 @@ fn mixed_events(rt: &impl Abort, alloc: Global, outcome: Outcome) -> Vec<Event> 
     events
 }
 
-fn add_call(rt: &impl Abort, alloc: Global, events: &mut Vec<Event>, line: &str) {
+pub(crate) fn add_call(rt: &impl Abort, alloc: Global, events: &mut Vec<Event>, line: &str) {
     let call = call_of(rt, alloc, line);
     let session = ANNA;
     events

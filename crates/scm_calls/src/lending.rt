@@ -1,7 +1,8 @@
 //! Questions that are lent by a book, and what is taken back after whatever happened meanwhile.
 
+use crate::deliveries::add_call;
 use crate::words::{ANNA, call_of, name, play, played, says};
-use scm_book::{Book, Inquiry};
+use scm_book::{Book, Event, Inquiry, Reply, run_events};
 use scm_frontier::Steps;
 use std::alloc::Global;
 use std::process::Abort;
@@ -167,4 +168,68 @@ fn nothing_is_lent_where_the_answer_is_there(rt: HostRuntime) {
         assert_not_lent(&rt, rt.alloc(), &mut book, line);
     }
     assert_held(&rt, &book, SITUATIONS);
+}
+
+fn add_event(rt: &impl Abort, events: &mut Vec<Event>, event: Event) {
+    events.push(event).expect(rt, "memory");
+}
+
+/// The book after these events, of which the calls got these replies.
+fn after_events(
+    rt: &impl Abort,
+    alloc: Global,
+    book: Book,
+    events: Vec<Event>,
+    wanted: &[&str],
+) -> Book {
+    let Ok((book, replies)) = run_events(alloc, book, events) else {
+        panic!(rt; "no memory");
+    };
+    assert_said(rt, &replies, wanted);
+    book
+}
+
+fn assert_said(rt: &impl Abort, replies: &[Reply], wanted: &[&str]) {
+    let mut said = replies.iter().zip(wanted);
+    assert!(rt; replies.len() == wanted.len() && said.all(|(reply, wanted)| says(reply, wanted)));
+}
+
+/// What was found comes back after a loan for work, and spares the question its steps.
+#[test]
+fn a_set_comes_back_among_events(rt: HostRuntime) {
+    let mut book = forbidden(&rt, rt.alloc());
+    let inquiry = searched(&rt, rt.alloc(), &mut book);
+    let mut events = Vec::new(rt.alloc());
+    add_event(&rt, &mut events, Event::LendWork);
+    add_event(&rt, &mut events, Event::TakeBack(inquiry));
+    add_call(&rt, rt.alloc(), &mut events, "ask t");
+    let book = after_events(&rt, rt.alloc(), book, events, &["inconsistent"]);
+    assert_held(&rt, &book, SITUATIONS);
+    assert!(rt; book.steps() == 0);
+}
+
+/// What is lent among events is lost: the start alone stays.
+#[test]
+fn a_set_is_lost_among_events(rt: HostRuntime) {
+    let mut book = forbidden(&rt, rt.alloc());
+    let inquiry = searched(&rt, rt.alloc(), &mut book);
+    let ask = call_of(&rt, rt.alloc(), "ask t");
+    let mut events = Vec::new(rt.alloc());
+    add_event(&rt, &mut events, Event::TakeBack(inquiry));
+    add_call(&rt, rt.alloc(), &mut events, "do t 0 sw x 77");
+    add_event(&rt, &mut events, Event::Lend(ask));
+    let book = after_events(&rt, rt.alloc(), book, events, &["ok"]);
+    assert_held(&rt, &book, 1);
+}
+
+/// What comes back to another book, which has no such trace any more, changes nothing.
+#[test]
+fn another_book_takes_nothing(rt: HostRuntime) {
+    let inquiry = searched(&rt, rt.alloc(), &mut forbidden(&rt, rt.alloc()));
+    let mut events = Vec::new(rt.alloc());
+    add_call(&rt, rt.alloc(), &mut events, "close t");
+    add_event(&rt, &mut events, Event::TakeBack(inquiry));
+    let book = played(&rt, rt.alloc(), OPEN);
+    let book = after_events(&rt, rt.alloc(), book, events, &["ok"]);
+    assert!(rt; book.held(&name(&rt, b"t")).is_none() && book.entries().len() == 6);
 }

@@ -1,12 +1,12 @@
 //! Questions about an open trace that are searched beside it.
-ghost use Rattle.std.specs.Prelude.{◌≡◌, ◌<◌, ◌≤◌, length, IfSome, IsTrue, MatchOption, None, Ok};
+ghost use Rattle.std.specs.Prelude.{◌≡◌, ◌↔◌, IfSome, IsTrue, MatchOption, None, Ok};
 ghost use Rattle.scm_sequences.specs.Lengths.{IsWithin};
 ghost use Rattle.scm_sequences.specs.Sequences.{lengths_of};
 ghost use Rattle.scm_sequences.specs.Traces.{trace_of};
 ghost use Rattle.scm_cells.specs.CellLists.{initials_of};
 ghost use Rattle.scm_reach.specs.Kept.{IsKept};
 ghost use Rattle.scm_book.specs.Sets.{asked_lengths};
-ghost use Rattle.scm_book.specs.Inquiries.{Lends, TakesBack, TakesSet};
+ghost use Rattle.scm_book.specs.Inquiries.{IsAlike, IsMore, Lends, TakesBack, TakesSet};
 
 use super::asking::lengths_at;
 use super::{OpenTrace, Purpose};
@@ -16,7 +16,7 @@ use crate::inquiry::Inquiry;
 use crate::proposing::Proposing;
 use scm_cells::{Cells, Name};
 use scm_reach::Reach;
-use scm_sequences::{Lengths, NoMemory, Sequences};
+use scm_sequences::{Lengths, Sequences};
 use std::alloc::Global;
 use std::mem;
 
@@ -182,28 +182,31 @@ impl OpenTrace {
 
     /// Whether a trace with these sequences and first contents has as many processes and the same first contents.
     fn is_alike(&self, sequences: &Sequences, reach: &Reach) -> bool
-        ensures procs { IsTrue result → length sequences.now ≡ length self.now.state.sequences }
-        ensures cells { IsTrue result → reach.now.initials ≡ initials_of self.now.state.cells }
+        ensures { IsTrue result ↔ IsAlike self.now.state sequences.now reach.now }
     {
         sequences.procs() == self.sequences.procs() && has_initials(&self.cells, reach.initials())
     }
 
     /// Whether the set holds more than the present one, and no more than the budget.
     fn is_more(&self, reach: &Reach) -> bool
-        ensures more { IsTrue result → length self.now.set.members < length reach.now.members }
-        ensures few { IsTrue result → length reach.now.members ≤ self.now.state.budget }
+        ensures { IsTrue result ↔ IsMore self.now.state.budget self.now.set reach.now }
     {
         let held = reach.held();
         held > self.reach.held() && held <= self.budget.limit()
     }
 }
 
-/// Whether the cells hold this at first; not where memory is refused.
+/// Whether the cells hold this at first.
 fn has_initials(cells: &Cells, initials: &[Option<u64>]) -> bool
-    ensures { IsTrue result → (initials.now ≡ initials_of cells.now) }
+    ensures { IsTrue result ↔ (initials.now ≡ initials_of cells.now) }
 {
-    match cells.initials() {
-        Ok(held) => held.as_slice() == initials,
-        Err(NoMemory) => false,
+    if cells.len() != initials.len() {
+        return false;
     }
+    for c in 0..initials.len() {
+        if cells.initial(c) != initials[c] {
+            return false;
+        }
+    }
+    true
 }

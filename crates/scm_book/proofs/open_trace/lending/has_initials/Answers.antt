@@ -1,6 +1,6 @@
-use Rattle.std.proofs.Common.{rules, sym, ◌∙◌}
-use Rattle.std.proofs.lemmas.Slice.Eq.{slice_eq-Decides}
+use Rattle.std.proofs.Common.{rules}
+use Rattle.scm_book.proofs.LendingLaws.{take-initials}
 use Rattle.scm_book.proofs.open_trace.lending.has_initials.Goals as goal
 
-pub returns-in-Ok : goal.returns-in-Ok
-returns-in-Ok c = λ same. sym ((slice_eq-Decides (λ a b. search rules) c.as_slice.result.now c.args.initials.now c.eq.result c.eq.ensures).0 same) ∙ c.as_slice.ensures.value ∙ c.in-Ok.ensures
+pub loop-c-preserved : goal.loop-c-preserved
+loop-c-preserved c = take-initials c.args.cells.now c.args.initials.now c.loop-c.c c.initial.result (search rules) (search rules) c.loop-c.invariant c.initial.ensures c.if-ne.ensures
