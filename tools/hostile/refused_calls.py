@@ -1,4 +1,4 @@
-"""Single calls of which each allocation is refused in turn, but for two tests that are slow: the tests that tell which call was
+"""Single calls of which each allocation is refused in turn, but for a test that is slow: the tests that tell which call was
 refused. Those of refused_rows call the lines of a row, on a book and through passes, and write its replies.
 
 A test that was refused what it needs for itself ends and says that it is memory. Every other end but the good one is wrong,
@@ -27,7 +27,7 @@ ON_ROWS = {
     "refused_rows::by_passes": ["message-passing-out-of-order", "a-return-changes-what-can-be-read", "claims-and-releases"],
 }
 NO_CALL, PREPARING = "no call", "a test's own preparing"
-SLOW = {"refused_forms::to_words_of_512_bits": 4, "refused_forms::to_full_situations": 20}  # of whose allocations one in so many is refused
+SLOW = {"refused_forms::to_full_situations": 20}  # of whose allocations one in so many is refused
 WANTS_MEMORY = re.compile(rb"memory|NoMemory|AllocError|AllocFailed")
 
 

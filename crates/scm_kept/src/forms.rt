@@ -1,9 +1,9 @@
-//! Sets of situations in words of 64 to 512 bits and in full, beside a plain list.
+//! Sets of situations in words of 64 and 128 bits and in full, beside a plain list.
 
 use crate::asked::{Asked, cells};
 use crate::plain_list::{PlainList, agree};
 use crate::traces::{read, swap, write};
-use scm_frontier::{Layout, U256, U512, Word};
+use scm_frontier::{Layout, Word};
 use scm_reach::Settled;
 use scm_schedules::refutation;
 use scm_sequences::{Lengths, MOST_CELLS, MOST_PROCESSES, Op};
@@ -15,8 +15,6 @@ use std::process::Abort;
 pub(crate) enum Form {
     Short,
     Long,
-    Longer,
-    Longest,
     Wide,
 }
 
@@ -37,12 +35,6 @@ pub(crate) fn narrowest(rt: &impl Abort, alloc: Global, asked: &Asked) -> Form {
     }
     if has_room::<u128>(rt, alloc, asked) {
         return Form::Long;
-    }
-    if has_room::<U256>(rt, alloc, asked) {
-        return Form::Longer;
-    }
-    if has_room::<U512>(rt, alloc, asked) {
-        return Form::Longest;
     }
     Form::Wide
 }
@@ -115,14 +107,14 @@ const SMALL: Growth = Growth {
     procs: 16,
     cells: 30,
     from: Form::Short,
-    to: [(4, Form::Long), (16, Form::Longer)],
+    to: [(4, Form::Long), (16, Form::Wide)],
 };
 
 const LARGE: Growth = Growth {
     procs: 32,
     cells: 64,
     from: Form::Long,
-    to: [(16, Form::Longest), (64, Form::Wide)],
+    to: [(16, Form::Wide), (64, Form::Wide)],
 };
 
 /// A trace whose form grows.
@@ -389,7 +381,7 @@ fn take_turns(rt: &impl Abort, alloc: Global, procs: usize, n: u8, forms: [Form;
 #[test]
 fn a_search_goes_on_in_longer_words(rt: HostRuntime) {
     take_turns(&rt, rt.alloc(), 16, 24, [Form::Short, Form::Long]);
-    take_turns(&rt, rt.alloc(), 32, 64, [Form::Long, Form::Longer]);
+    take_turns(&rt, rt.alloc(), 32, 64, [Form::Long, Form::Wide]);
 }
 
 /// The first two processes write and read one value, and then that again so many times.
@@ -402,15 +394,12 @@ fn add_pair(rt: &impl Abort, asked: &mut Asked, times: u8) {
 
 /// So many cells, so much ballast in 30 processes, so many reads, and the form: words that are filled to the last bit, and
 /// one bit more.
-const FILLED: [(u8, u8, u8, Form); 9] = [
+const FILLED: [(u8, u8, u8, Form); 6] = [
     (32, 1, 1, Form::Short),
     (33, 1, 1, Form::Long),
     (32, 1, 2, Form::Long),
     (60, 2, 4, Form::Long),
-    (60, 2, 8, Form::Longer),
-    (42, 16, 4, Form::Longer),
-    (42, 16, 8, Form::Longest),
-    (60, 64, 16, Form::Longest),
+    (60, 2, 8, Form::Wide),
     (60, 64, 32, Form::Wide),
 ];
 
