@@ -13,8 +13,6 @@ use std::process::Abort;
 ///
 /// - `pack`: counts and contents of a situation, which is packed.
 /// - `across`: the same, by way of a word of 64 bits in the layout for the counts W and L.
-/// - `gap`: counts as great as they are to have room by a gap. There is one where one count alone wants it, and bits are to
-///   spare.
 const ROWS: &str = "
     pack 64 W L: W L / -1 => kept
     pack 128 W*3 L: W*3 L / -1 => kept
@@ -34,16 +32,6 @@ const ROWS: &str = "
     across 64 7 L: W L / -1 => no word
     across 64 7 L: 7 L / ? => kept
     across 64 7 L: 7 L / -1 => kept
-    gap 64 1*15: 100 1*14 => kept
-    gap 64 1*15: 1*7 100 1*7 => kept
-    gap 64 1*15: 1*14 100 => kept
-    gap 128 1*15: 1000 1*14 => kept
-    gap 128 1*15: 1*7 1000 1*7 => kept
-    gap 128 1*15: 1*14 1000 => kept
-    gap 64 1*15: 1*15 => no word
-    gap 64 1*14: 1*3 100 1*11 => no word
-    gap 64 1*15: 1*3 100*2 1*10 => no word
-    gap 64 W L: W W => no word
 ";
 
 fn count(rt: &impl Abort, word: &str) -> u32 {
@@ -158,26 +146,6 @@ fn said_of(is_kept: Option<bool>) -> &'static str {
     }
 }
 
-/// Whether a word stands for what it stood for once it has the gap that gives counts as great as these room, and the layout has
-/// room for those then; `None` where there is no such gap.
-fn is_kept_with_a_gap<W: Word>(
-    rt: &impl Abort,
-    alloc: Global,
-    counts: &[u32],
-    greater: &[u32],
-) -> Option<bool> {
-    assert!(rt; W::BITS <= MOST_BITS && greater.len() <= MOST_PROCESSES);
-    let mut layout = layout_for(rt, alloc, W::BITS, counts);
-    let before = situation(rt, alloc, counts, &[Some(u64::MAX)]);
-    let word = layout.pack::<W>(&before)?;
-    let gap = layout.gap_for(&Lengths::new(alloc, greater))?;
-    let with_gap = layout.open_word(gap, word)?;
-    layout.open(gap);
-    let after = situation(rt, alloc, greater, &[None]);
-    let is_same = layout.unpack(alloc, with_gap).expect(rt, "memory") == before;
-    Some(is_same && is_kept::<W>(rt, alloc, &layout, &after) == Some(true))
-}
-
 fn situation_of(rt: &impl Abort, alloc: Global, text: &str) -> Situation {
     let (places, held) = text.split_once(" / ").expect(rt, "counts and contents");
     situation(rt, alloc, &counts(rt, alloc, places), &[content(rt, held)])
@@ -213,8 +181,7 @@ fn said<W: Word + Drop>(
 ) -> &'static str {
     match kind {
         "pack" => packed::<W>(rt, alloc, less, text),
-        "across" => packed_across::<W>(rt, alloc, less, text),
-        _ => said_of(is_kept_with_a_gap::<W>(rt, alloc, less, &counts(rt, alloc, text))),
+        _ => packed_across::<W>(rt, alloc, less, text),
     }
 }
 
