@@ -1,5 +1,5 @@
-"""Single calls of which each allocation is refused in turn, but for two tests that are slow: the tests that tell which call was
-refused. Those of refused_rows call the lines of a row, on a book and through passes, and write its replies.
+"""Single calls of which each allocation is refused in turn: the tests that tell which call was refused.
+Those of refused_rows call the lines of a row, on a book and through passes, and write its replies.
 
 A test that was refused what it needs for itself ends and says that it is memory. Every other end but the good one is wrong,
 and so is each that comes after a call told that it was refused: the same call had the memory then."""
@@ -27,7 +27,6 @@ ON_ROWS = {
     "refused_rows::by_passes": ["message-passing-out-of-order", "a-return-changes-what-can-be-read", "claims-and-releases"],
 }
 NO_CALL, PREPARING = "no call", "a test's own preparing"
-SLOW = {"refused_forms::to_words_of_512_bits": 4, "refused_forms::to_full_situations": 20}  # of whose allocations one in so many is refused
 WANTS_MEMORY = re.compile(rb"memory|NoMemory|AllocError|AllocFailed")
 
 
@@ -59,10 +58,7 @@ class Calls:
 
     def numbers(self):
         """The allocations to refuse."""
-        made = self.program.allocations([self.test], self.given)
-        if self.test in SLOW:
-            print(f"{self.name}: one in {SLOW[self.test]} of {made} allocations")
-        return range(1, made + IN_VAIN, SLOW.get(self.test, 1))
+        return range(1, self.program.allocations([self.test], self.given) + IN_VAIN)
 
     def run(self, pool):
         if self.refuse(0) != NO_CALL:

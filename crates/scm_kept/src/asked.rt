@@ -149,12 +149,6 @@ impl Asked {
         taken.expect(rt, "memory")
     }
 
-    /// Has the words packed for all of the trace, which a taking of no task does.
-    pub(crate) fn pack(&mut self, rt: &impl Abort, alloc: Global) {
-        let taken = self.take(rt, alloc, 0);
-        assert!(rt; taken.is_empty());
-    }
-
     /// What becomes of the outcome of a copy of the task, under a limit.
     pub(crate) fn accept(&mut self, rt: &impl Abort, task: &Task, limit: usize) -> Fate {
         let Ok(outcome) = expand(task.copy().expect(rt, "memory")) else {

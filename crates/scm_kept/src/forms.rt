@@ -1,9 +1,9 @@
-//! Sets of situations in words of 64 to 512 bits and in full, beside a plain list.
+//! Sets of situations in words of 64 and 128 bits and in full, beside a plain list.
 
 use crate::asked::{Asked, cells};
 use crate::plain_list::{PlainList, agree};
 use crate::traces::{read, swap, write};
-use scm_frontier::{Layout, U256, U512, Word};
+use scm_frontier::{Layout, Word};
 use scm_reach::Settled;
 use scm_schedules::refutation;
 use scm_sequences::{Lengths, MOST_CELLS, MOST_PROCESSES, Op};
@@ -15,8 +15,6 @@ use std::process::Abort;
 pub(crate) enum Form {
     Short,
     Long,
-    Longer,
-    Longest,
     Wide,
 }
 
@@ -37,12 +35,6 @@ pub(crate) fn narrowest(rt: &impl Abort, alloc: Global, asked: &Asked) -> Form {
     }
     if has_room::<u128>(rt, alloc, asked) {
         return Form::Long;
-    }
-    if has_room::<U256>(rt, alloc, asked) {
-        return Form::Longer;
-    }
-    if has_room::<U512>(rt, alloc, asked) {
-        return Form::Longest;
     }
     Form::Wide
 }
@@ -115,14 +107,14 @@ const SMALL: Growth = Growth {
     procs: 16,
     cells: 30,
     from: Form::Short,
-    to: [(4, Form::Long), (16, Form::Longer)],
+    to: [(4, Form::Long), (16, Form::Wide)],
 };
 
 const LARGE: Growth = Growth {
     procs: 32,
     cells: 64,
     from: Form::Long,
-    to: [(16, Form::Longest), (64, Form::Wide)],
+    to: [(16, Form::Wide), (64, Form::Wide)],
 };
 
 /// A trace whose form grows.
@@ -155,11 +147,10 @@ impl Growing {
         self.asked.go_back(rt, &lengths);
     }
 
-    /// Lets the form grow to this one, by values that no situation holds: a search alone would not need it.
+    /// Lets the form grow to this one, by values that no situation holds.
     fn grow(&mut self, rt: &impl Abort, (times, to): (u8, Form)) {
         add_ballast(rt, &mut self.asked, times);
         assert!(rt; narrowest(rt, self.alloc, &self.asked) == to);
-        self.asked.pack(rt, self.alloc);
     }
 }
 
@@ -217,21 +208,25 @@ fn answers_stay_on_the_way_back(rt: HostRuntime) {
 }
 
 /// The last process reads on and on what nobody writes, and then ever more values. Where its count or a cell's numbers outgrow
-/// their field, the words that are there are packed anew if they are to have room for all of the trace, the first time with
-/// other numbers for what a cell holds, since what was read first comes after what others wrote since; 64 bits do all the
-/// while. Else they stay, since that process can't begin.
-fn read_on(rt: &impl Abort, alloc: Global, is_packed: bool) {
+/// their field, the words that are there are packed anew, the first time with other numbers for what a cell holds, since what
+/// was read first comes after what others wrote since; 64 bits do all the while.
+#[test]
+fn answers_stay_as_fields_grow(rt: HostRuntime) {
+    read_on(&rt, rt.alloc());
+}
+
+fn read_on(rt: &impl Abort, alloc: Global) {
     let mut asked = Asked::new(rt, alloc, &cells(rt, alloc, 24), 16);
     asked.report(rt, 15, read(2, 9));
     assert!(rt; is_right_at_the_end(rt, alloc, &mut asked));
     asked.report_all(rt, "0Wx5 1Ux5>6 0Ro7 1Ux5>6 0Wy6 1Ux5>6");
     for i in 0..20 {
-        read_once(rt, alloc, &mut asked, i, is_packed);
+        read_once(rt, alloc, &mut asked, i);
     }
 }
 
 /// Read `i` of these.
-fn read_once(rt: &impl Abort, alloc: Global, asked: &mut Asked, i: u8, is_packed: bool) {
+fn read_once(rt: &impl Abort, alloc: Global, asked: &mut Asked, i: u8) {
     assert!(rt; asked.sequences().procs() == 16);
     asked.report(
         rt,
@@ -242,18 +237,8 @@ fn read_once(rt: &impl Abort, alloc: Global, asked: &mut Asked, i: u8, is_packed
             read(23, u64::from(i))
         },
     );
-    if is_packed {
-        asked.pack(rt, alloc);
-    }
     assert!(rt; is_right_at_the_end(rt, alloc, asked));
     assert!(rt; narrowest(rt, alloc, asked) == Form::Short);
-}
-
-#[test]
-fn answers_stay_as_fields_grow(rt: HostRuntime) {
-    for is_packed in [true, false] {
-        read_on(&rt, rt.alloc(), is_packed);
-    }
 }
 
 /// How a trace goes on: one process can't begin, and the last one stores so many values in turn, with a question after so many
@@ -281,74 +266,28 @@ fn store(rt: &impl Abort, asked: &mut Asked, course: Course, i: u8) {
     asked.report(rt, course.procs - 1, write(1, u64::from(i) % course.values));
 }
 
-/// By how many steps more a set is asked that packs its words anew, or opens a gap, where it meets a situation without a word,
-/// than one whose words have room for all of the trace before each question: at most one.
-fn steps_more_at_once(
-    rt: &impl Abort,
-    alloc: Global,
-    roomy: &mut Asked,
-    lacking: &mut Asked,
-) -> u64 {
-    roomy.pack(rt, alloc);
-    let (wanted, least) = roomy.ask_at_the_end(rt, 100);
-    let (settled, steps) = lacking.ask_at_the_end(rt, 100);
-    assert!(rt; settled == wanted && least <= steps && steps - least <= 1);
-    assert!(rt; is_right_at_the_end(rt, alloc, lacking));
-    steps - least
-}
-
-/// The same of both sets after 40 stores.
-fn steps_more_in_all(
-    rt: &impl Abort,
-    alloc: Global,
-    course: Course,
-    roomy: &mut Asked,
-    lacking: &mut Asked,
-) -> u64 {
-    let mut more = 0u64;
+/// Questions are right while counts and values outgrow their fields.
+fn store_on(rt: &impl Abort, alloc: Global, course: Course) {
+    let mut asked = begun(rt, alloc, course);
     for i in 0..40u8 {
-        store(rt, roomy, course, i);
-        store(rt, lacking, course, i);
+        store(rt, &mut asked, course, i);
         if course.at_once > 0 && i % course.at_once == 0 {
-            more = more.saturating_add(steps_more_at_once(rt, alloc, roomy, lacking));
+            assert!(rt; is_right_at_the_end(rt, alloc, &mut asked));
         }
     }
-    more
 }
 
-fn steps_more(rt: &impl Abort, alloc: Global, course: Course) -> u64 {
-    let mut roomy = begun(rt, alloc, course);
-    let mut lacking = begun(rt, alloc, course);
-    steps_more_in_all(rt, alloc, course, &mut roomy, &mut lacking)
-}
-
-/// The count alone outgrows its field, and gets gaps: four times it would be packed anew.
 #[test]
-fn a_gap_is_opened_where_a_situation_has_no_word(rt: HostRuntime) {
+fn words_are_packed_anew_as_they_need_room(rt: HostRuntime) {
     for (procs, n) in [(16, 24), (32, 64)] {
-        let course = Course {
-            procs,
-            cells: n,
-            values: 1,
-            at_once: 1,
-        };
-        let more = steps_more(&rt, rt.alloc(), course);
-        assert!(rt; 1 <= more && more <= 3);
-    }
-}
-
-/// Values outgrow their field too, at the same question as the count or at another one.
-#[test]
-fn words_are_packed_anew_where_a_situation_has_none(rt: HostRuntime) {
-    for (procs, n) in [(16, 24), (32, 64)] {
-        for at_once in [1, 5] {
+        for (values, at_once) in [(1, 1), (40, 1), (40, 5)] {
             let course = Course {
                 procs,
                 cells: n,
-                values: 40,
+                values,
                 at_once,
             };
-            assert!(rt; 1 <= steps_more(&rt, rt.alloc(), course));
+            store_on(&rt, rt.alloc(), course);
         }
     }
 }
@@ -389,7 +328,7 @@ fn take_turns(rt: &impl Abort, alloc: Global, procs: usize, n: u8, forms: [Form;
 #[test]
 fn a_search_goes_on_in_longer_words(rt: HostRuntime) {
     take_turns(&rt, rt.alloc(), 16, 24, [Form::Short, Form::Long]);
-    take_turns(&rt, rt.alloc(), 32, 64, [Form::Long, Form::Longer]);
+    take_turns(&rt, rt.alloc(), 32, 64, [Form::Long, Form::Wide]);
 }
 
 /// The first two processes write and read one value, and then that again so many times.
@@ -402,15 +341,12 @@ fn add_pair(rt: &impl Abort, asked: &mut Asked, times: u8) {
 
 /// So many cells, so much ballast in 30 processes, so many reads, and the form: words that are filled to the last bit, and
 /// one bit more.
-const FILLED: [(u8, u8, u8, Form); 9] = [
+const FILLED: [(u8, u8, u8, Form); 6] = [
     (32, 1, 1, Form::Short),
     (33, 1, 1, Form::Long),
     (32, 1, 2, Form::Long),
     (60, 2, 4, Form::Long),
-    (60, 2, 8, Form::Longer),
-    (42, 16, 4, Form::Longer),
-    (42, 16, 8, Form::Longest),
-    (60, 64, 16, Form::Longest),
+    (60, 2, 8, Form::Wide),
     (60, 64, 32, Form::Wide),
 ];
 
@@ -419,7 +355,6 @@ fn fill(rt: &impl Abort, alloc: Global, asked: &mut Asked, times: u8, more: u8, 
     add_ballast(rt, asked, times);
     add_pair(rt, asked, more);
     assert!(rt; narrowest(rt, alloc, asked) == wanted);
-    asked.pack(rt, alloc);
     assert!(rt; is_right_at_the_end(rt, alloc, asked));
 }
 

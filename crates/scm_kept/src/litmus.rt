@@ -144,14 +144,12 @@ struct Shape {
     values: u64,
 }
 
-/// A form, with how many processes and values. The first is that of the bare rows. The last one's ballast alone fills 532 bits. A
-/// further form is one more entry.
-const SHAPES: [(Form, usize, u64); 5] = [
+/// A form, with how many processes and values. The first is that of the bare rows. No word has room for the last
+/// one. A further form is one more entry.
+const SHAPES: [(Form, usize, u64); 3] = [
     (Form::Short, 0, 0),
     (Form::Long, 14, 1),
-    (Form::Longer, 28, 1),
-    (Form::Longest, 28, 8),
-    (Form::Wide, 28, 32),
+    (Form::Wide, 28, 1),
 ];
 
 fn shape_of((form, procs, values): (Form, usize, u64)) -> Shape {
@@ -439,10 +437,10 @@ fn marks_are_settled_alike_in_all_forms(rt: HostRuntime) {
 
 #[test]
 fn going_back_is_alike_in_words(rt: HostRuntime) {
-    compare_forms(&rt, rt.alloc(), AND_BACK, &SHAPES[1..4]);
+    compare_forms(&rt, rt.alloc(), AND_BACK, &SHAPES[1..2]);
 }
 
 #[test]
 fn going_back_is_alike_in_full(rt: HostRuntime) {
-    compare_forms(&rt, rt.alloc(), AND_BACK, &SHAPES[4..]);
+    compare_forms(&rt, rt.alloc(), AND_BACK, &SHAPES[2..]);
 }

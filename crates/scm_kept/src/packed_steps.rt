@@ -1,7 +1,7 @@
 //! Steps on words, in the layouts of whole traces: that calls succeed, and that fields are filled to the last bit.
 ghost use Rattle.std.specs.Prelude.{◌≡◌, ◌≤◌, IfSome};
 
-use scm_frontier::{Layout, NoRoom, Situation, Steps, U256, U512, Word};
+use scm_frontier::{Layout, NoRoom, Situation, Steps, Word};
 use scm_sequences::{MOST_CELLS, MOST_PROCESSES, Op, Sequences};
 use std::alloc::Global;
 use std::process::Abort;
@@ -115,13 +115,11 @@ fn assert_walked<W: Word>(rt: &impl Abort, alloc: Global, procs: usize, times: u
     assert!(rt; is_walked(rt, &full, start, &sequences));
 }
 
-/// A count has 7 bits and a cell 2, of which 64 bits have just room; of 32 processes the fields have 7 bits and 14 bits, and some
-/// lie across the halves.
+/// A count has 7 bits and a cell 2, of which 64 bits have just room, and 128 just for twice as many processes.
 #[test]
-fn steps_go_on_across_the_halves(rt: HostRuntime) {
+fn steps_go_on_in_full_words(rt: HostRuntime) {
     assert_walked::<u64>(&rt, rt.alloc(), 8, 100);
-    assert_walked::<U256>(&rt, rt.alloc(), MOST_PROCESSES, 100);
-    assert_walked::<U512>(&rt, rt.alloc(), MOST_PROCESSES, 130);
+    assert_walked::<u128>(&rt, rt.alloc(), 17, 100);
 }
 
 #[test]

@@ -3,7 +3,7 @@ ghost use Rattle.std.specs.Prelude.{◌≡◌, ◌≤◌, IfSome};
 
 use crate::situations::situation;
 use crate::traces::{parts_of, value};
-use scm_frontier::{CellValues, Layout, MOST_BITS, Situation, U256, U512, Word};
+use scm_frontier::{CellValues, Layout, MOST_BITS, Situation, Word};
 use scm_sequences::{Lengths, MOST_PROCESSES};
 use std::alloc::Global;
 use std::process::Abort;
@@ -11,24 +11,15 @@ use std::process::Abort;
 /// What is done, the bits of a word and the counts that its layout is for, with one cell that is open at first and then holds
 /// the greatest value. W is the greatest count of 32 bits, L that of 31.
 ///
-/// - `pack`: counts and contents of a situation, which is packed. The halves part after 128, 256 and 384 bits, where no field of
-///   31 bits ends.
+/// - `pack`: counts and contents of a situation, which is packed.
 /// - `across`: the same, by way of a word of 64 bits in the layout for the counts W and L.
-/// - `gap`: counts as great as they are to have room by a gap. There is one where one count alone wants it, and bits are to
-///   spare.
 const ROWS: &str = "
     pack 64 W L: W L / -1 => kept
     pack 128 W*3 L: W*3 L / -1 => kept
-    pack 256 W*7 L: W*7 L / -1 => kept
-    pack 512 W*15 L: W*15 L / -1 => kept
     pack 64 W*2: W*2 / -1 => no layout
     pack 128 W*4: W*4 / -1 => no layout
-    pack 256 W*8: W*8 / -1 => no layout
-    pack 512 W*16: W*16 / -1 => no layout
-    pack 256 L*8: L 0 L 0 L 0 L 0 / ? => kept
-    pack 256 L*8: 0 L 0 L 0 L 0 L / ? => kept
-    pack 512 L*16: L 0 L 0 L 0 L 0 L 0 L 0 L 0 L 0 / ? => kept
-    pack 512 L*16: 0 L 0 L 0 L 0 L 0 L 0 L 0 L 0 L / ? => kept
+    pack 128 L*4: L 0 L 0 / ? => kept
+    pack 128 L*4: 0 L 0 L / ? => kept
     pack 64 W L: W 2147483648 / -1 => no word
     pack 64 W L: W L / -2 => no word
     pack 64 1*15: 7*15 / ? => kept
@@ -41,19 +32,6 @@ const ROWS: &str = "
     across 64 7 L: W L / -1 => no word
     across 64 7 L: 7 L / ? => kept
     across 64 7 L: 7 L / -1 => kept
-    gap 64 1*15: 100 1*14 => kept
-    gap 64 1*15: 1*7 100 1*7 => kept
-    gap 64 1*15: 1*14 100 => kept
-    gap 128 1*15: 1000 1*14 => kept
-    gap 128 1*15: 1*7 1000 1*7 => kept
-    gap 128 1*15: 1*14 1000 => kept
-    gap 256 1*15: 1000 1*14 => no word
-    gap 256 1*15: 1*7 1000 1*7 => no word
-    gap 256 1*15: 1*14 1000 => no word
-    gap 64 1*15: 1*15 => no word
-    gap 64 1*14: 1*3 100 1*11 => no word
-    gap 64 1*15: 1*3 100*2 1*10 => no word
-    gap 64 W L: W W => no word
 ";
 
 fn count(rt: &impl Abort, word: &str) -> u32 {
@@ -168,26 +146,6 @@ fn said_of(is_kept: Option<bool>) -> &'static str {
     }
 }
 
-/// Whether a word stands for what it stood for once it has the gap that gives counts as great as these room, and the layout has
-/// room for those then; `None` where there is no such gap.
-fn is_kept_with_a_gap<W: Word>(
-    rt: &impl Abort,
-    alloc: Global,
-    counts: &[u32],
-    greater: &[u32],
-) -> Option<bool> {
-    assert!(rt; W::BITS <= MOST_BITS && greater.len() <= MOST_PROCESSES);
-    let mut layout = layout_for(rt, alloc, W::BITS, counts);
-    let before = situation(rt, alloc, counts, &[Some(u64::MAX)]);
-    let word = layout.pack::<W>(&before)?;
-    let gap = layout.gap_for(&Lengths::new(alloc, greater))?;
-    let with_gap = layout.open_word(gap, word)?;
-    layout.open(gap);
-    let after = situation(rt, alloc, greater, &[None]);
-    let is_same = layout.unpack(alloc, with_gap).expect(rt, "memory") == before;
-    Some(is_same && is_kept::<W>(rt, alloc, &layout, &after) == Some(true))
-}
-
 fn situation_of(rt: &impl Abort, alloc: Global, text: &str) -> Situation {
     let (places, held) = text.split_once(" / ").expect(rt, "counts and contents");
     situation(rt, alloc, &counts(rt, alloc, places), &[content(rt, held)])
@@ -223,8 +181,7 @@ fn said<W: Word + Drop>(
 ) -> &'static str {
     match kind {
         "pack" => packed::<W>(rt, alloc, less, text),
-        "across" => packed_across::<W>(rt, alloc, less, text),
-        _ => said_of(is_kept_with_a_gap::<W>(rt, alloc, less, &counts(rt, alloc, text))),
+        _ => packed_across::<W>(rt, alloc, less, text),
     }
 }
 
@@ -235,9 +192,7 @@ fn check(rt: &impl Abort, alloc: Global, row: &str) {
     let less = counts(rt, alloc, less);
     let said = match bits {
         "64" => said::<u64>(rt, alloc, kind, &less, text),
-        "128" => said::<u128>(rt, alloc, kind, &less, text),
-        "256" => said::<U256>(rt, alloc, kind, &less, text),
-        _ => said::<U512>(rt, alloc, kind, &less, text),
+        _ => said::<u128>(rt, alloc, kind, &less, text),
     };
     assert!(rt; said == wanted, "{row}: {said}");
 }
