@@ -1,9 +1,10 @@
 -- What lies under the lock.
-use Rattle.std.specs.Prelude.{ℕ, ◌≡◌}
+use Rattle.std.specs.Prelude.{ℕ, ◌≡◌, ◌+◌, ◌⊎◌}
 use Rattle.scm_sequences.specs.declared.refusal.Refusal.TheVariants.{NoMemory}
 use Rattle.scm_results.specs.Tallies.{Total}
-use Rattle.scm_book.specs.Calls.{ReplyData, refused}
-use Rattle.scm_book.specs.Journal.{BookState}
+use Rattle.scm_book.specs.Calls.{CallData, ReplyData, refused}
+use Rattle.scm_book.specs.Journal.{BookState, IsCall}
+use Rattle.scm_book.specs.Inquiries.{Inquired, IsTakingBack}
 
 pub record Desked : Type 0 where
   pub book : BookState
@@ -15,3 +16,20 @@ pub record Desked : Type 0 where
 -- a call for which the pass has no room: it is refused for want of memory, and the book is as it was
 abbrev pub IsRefusedRoom : BookState → ReplyData → BookState → Type 0
 IsRefusedRoom old reply new = (reply ≡ refused NoMemory) × (new ≡ old)
+
+-- a session's call under the lock: the book's, or one for which the pass has no room
+abbrev pub IsDeskCall : BookState → ℕ → CallData → ReplyData → BookState → Type 0
+IsDeskCall old session call reply new = IsRefusedRoom old reply new ⊎ IsCall old session call reply new
+
+-- what was lent is taken back, and then the call is made
+abbrev pub IsSearchedCall : BookState → Inquired → ℕ → CallData → ReplyData → BookState → Type 0
+IsSearchedCall old inquiry session call reply new = (mid : BookState) × IsTakingBack old inquiry mid × IsDeskCall mid session call reply new
+
+-- nothing but the book changed
+pub record KeepsCounts (old new : Desked) : Type 0 where
+  pub entered : new.entered ≡ old.entered
+  pub totals : new.totals ≡ old.totals
+
+-- one more pass entered, and nothing else changed
+abbrev pub with_one_entered : Desked → Desked
+with_one_entered desk = record desk { entered = desk.entered + 1 }

@@ -127,7 +127,7 @@ fn take_in<B: BookNaming>(
     ensures seat { (seat.new.table_id ≡ B.table) × (seat.new.me ≡ seat.old.me) }
     ensures fits { Fits seat.old.me.0.log pass }
     ensures given { pass.number < seat.old.me.0.entered }
-    ensures parts { all.new.parts ≡ all.old.parts + 1 }
+    ensures parts { (all.new.parts ≡ all.old.parts + 1) × (all.new.parts ≤ B.seats) }
     ensures amount { all.new.amount ≡ all.old.amount + length pass.made }
 {
     let Pass {
@@ -145,7 +145,7 @@ impl<B: BookNaming> Desk<B> {
     pub(crate) fn audit(self, hall: &Hall<B>, passes: Vec<Pass<B>>, tallies: Vec<Tally<B>>) -> Audit
         ensures book { result.book ≡ self.book }
         ensures entered { result.entered ≡ self.entered }
-        ensures most_entered { result.entered ≤ MOST_SESSIONS }
+        ensures most_entered { (vec_len passes ≤ result.entered) × (result.entered ≤ MOST_SESSIONS) }
         ensures tallies { result.tallies ≡ self.totals.given }
         ensures most_tallies { result.tallies ≤ MOST_TALLIES }
         ensures legal { IsLegalBook result.book }

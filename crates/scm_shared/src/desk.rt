@@ -1,13 +1,15 @@
 //! What lies under the lock of a shared book.
-ghost use Rattle.std.specs.Prelude.{◌≡◌, ◌≢◌, ◌+◌, ◌<◌, ◌≤◌, ◌⊎◌, [], true, false, IfErr, IfOk, IfSome, None, Some, MatchResult, vec_len};
+ghost use Rattle.std.specs.Prelude.{◌≡◌, ◌≢◌, ◌+◌, ◌<◌, ◌≤◌, [], true, false, IfErr, IfOk, None, Some, MatchOption, MatchResult, vec_len};
+ghost use Rattle.std.specs.Option.{option_map};
 ghost use Rattle.scm_sequences.specs.declared.refusal.Refusal.TheVariants.{BadLine, JournalFull, NoMemory as WithoutMemory, TooManySessions};
 ghost use Rattle.scm_sequences.specs.declared.limits.TheConstants.{MOST_SESSIONS};
-ghost use Rattle.scm_results.specs.Tallies.{nothing_counted};
+ghost use Rattle.scm_results.specs.declared.limits.TheConstants.{MOST_TALLIES};
+ghost use Rattle.scm_results.specs.Tallies.{nothing, nothing_counted};
 ghost use Rattle.scm_book.specs.Calls.{call_data, reply_data, refused};
-ghost use Rattle.scm_book.specs.Journal.{makes_entry, IsCall, IsUnchanged};
+ghost use Rattle.scm_book.specs.Journal.{makes_entry, IsUnchanged};
 ghost use Rattle.scm_book.specs.Inquiries.{IsLending, IsLendingForWork, IsTakingBack};
 ghost use Rattle.scm_book.specs.Workers.{IsTaking, IsDelivery};
-ghost use Rattle.scm_shared.specs.Desks.{IsRefusedRoom};
+ghost use Rattle.scm_shared.specs.Desks.{with_one_entered, KeepsCounts, IsDeskCall, IsSearchedCall};
 ghost use Rattle.scm_shared.specs.Passes.{newcomer, Extended, SeenFull};
 ghost use Rattle.scm_shared.specs.Seats.{IsKeeper};
 
@@ -23,6 +25,27 @@ use std::alloc::Global;
 use std::marker::{Model, PhantomData};
 use std::sync::ledger;
 use std::sync::ledger::{Blank, Share};
+
+/// A question that the book lent, with its set. It can't be let go: only the desk of this book takes it apart, to take it back.
+pub(crate) struct Loan<B: BookNaming> {
+    question: Inquiry,
+    of: PhantomData<B>,
+}
+
+impl<B: BookNaming> Loan<B> {
+    fn new(question: Inquiry) -> Loan<B>
+        ensures { result.question ≡ question }
+    {
+        Loan {
+            question,
+            of: PhantomData,
+        }
+    }
+
+    pub(crate) fn question(&mut self) -> &mut Inquiry {
+        &mut self.question
+    }
+}
 
 /// The book, with its seat, which knows the journal; how many passes entered; and the totals of tasks and outcomes, which are
 /// those of the book.
@@ -65,6 +88,9 @@ impl<B: BookNaming> Desk<B> {
         requires taken { totals.taken.name ≡ B.taken }
         requires delivered { totals.delivered.name ≡ B.delivered }
         requires parts { totals.taken.parts ≡ B.parts }
+        ensures entered { result.entered ≡ 0 }
+        ensures totals { result.totals ≡ nothing }
+        ensures journal { result.book.journal ≡ [] }
     {
         let (made, rest) = made.open::<Made<B>>();
         Desk {
@@ -80,6 +106,7 @@ impl<B: BookNaming> Desk<B> {
     /// A new pass.
     pub(crate) fn enter(&mut self, hall: &Hall<B>, alloc: Global) -> Result<Pass<B>, Refusal>
         ensures entered { MatchResult result (λ p. (p ≡ newcomer self.old.entered) × (self.old.entered < MOST_SESSIONS)) (λ r. (r ≡ TooManySessions) × (self.old.entered ≡ MOST_SESSIONS)) }
+        ensures desk { MatchResult result (λ _. self.new ≡ with_one_entered self.old) (λ _. self.new ≡ self.old) }
     {
         if usize::from(self.entered) >= MOST_SESSIONS {
             return Err(Refusal::TooManySessions);
@@ -104,8 +131,8 @@ impl<B: BookNaming> Desk<B> {
         ensures refused { reply_data result ≡ refused WithoutMemory → pass.new ≡ pass.old }
         ensures good { reply_data result ≢ refused BadLine }
         ensures sessions { reply_data result ≢ refused TooManySessions }
-        ensures book { IsRefusedRoom self.old.book (reply_data result) self.new.book
-            ⊎ IsCall self.old.book pass.old.number (call_data call) (reply_data result) self.new.book }
+        ensures book { IsDeskCall self.old.book pass.old.number (call_data call) (reply_data result) self.new.book }
+        ensures counts { KeepsCounts self.old self.new }
         ensures unchanged { makes_entry (reply_data result) ≡ false → IsUnchanged self.old.book self.new.book }
     {
         if pass.kept.reserve(1).is_err() {
@@ -138,17 +165,19 @@ impl<B: BookNaming> Desk<B> {
         hall: &Hall<B>,
         pass: &mut Pass<B>,
         call: Call,
-    ) -> Result<Reply, (Call, Inquiry)>
+    ) -> Result<Reply, (Call, Loan<B>)>
         ensures made { IfOk result (λ reply. makes_entry (reply_data reply) ≡ true → Extended pass.old (call_data call) (reply_data reply) pass.new) }
         ensures full { IfOk result (λ reply. reply_data reply ≡ refused JournalFull → SeenFull pass.old pass.new) }
         ensures refused { IfOk result (λ reply. reply_data reply ≡ refused WithoutMemory → pass.new ≡ pass.old) }
         ensures good { IfOk result (λ reply. reply_data reply ≢ refused BadLine) }
         ensures sessions { IfOk result (λ reply. reply_data reply ≢ refused TooManySessions) }
-        ensures lent { IfErr result (λ lent. (call_data lent.0 ≡ call_data call) × IsLending self.old.book (call_data call) (Some lent.1) self.new.book) }
+        ensures called { IfOk result (λ reply. IsDeskCall self.old.book pass.old.number (call_data call) (reply_data reply) self.new.book) }
+        ensures lent { IfErr result (λ lent. (call_data lent.0 ≡ call_data call) × IsLending self.old.book (call_data call) (Some lent.1.question) self.new.book) }
         ensures pass { IfErr result (λ _. pass.new ≡ pass.old) }
+        ensures counts { KeepsCounts self.old self.new }
     {
         match self.book.lend(&call) {
-            Some(inquiry) => Err((call, inquiry)),
+            Some(question) => Err((call, Loan::new(question))),
             None => Ok(self.call(hall, pass, call)),
         }
     }
@@ -159,30 +188,36 @@ impl<B: BookNaming> Desk<B> {
         hall: &Hall<B>,
         pass: &mut Pass<B>,
         call: Call,
-        inquiry: Inquiry,
+        loan: Loan<B>,
     ) -> Reply
         ensures made { makes_entry (reply_data result) ≡ true → Extended pass.old (call_data call) (reply_data result) pass.new }
         ensures full { reply_data result ≡ refused JournalFull → SeenFull pass.old pass.new }
         ensures refused { reply_data result ≡ refused WithoutMemory → pass.new ≡ pass.old }
         ensures good { reply_data result ≢ refused BadLine }
         ensures sessions { reply_data result ≢ refused TooManySessions }
+        ensures book { IsSearchedCall self.old.book loan.question pass.old.number (call_data call) (reply_data result) self.new.book }
+        ensures counts { KeepsCounts self.old self.new }
     {
-        self.book.take_back(inquiry);
+        self.take_back(loan);
         self.call(hall, pass, call)
     }
 
     /// The set of a trace, lent for work.
-    pub(crate) fn lend_work(&mut self) -> Option<Inquiry>
-        ensures book { IsLendingForWork self.old.book result self.new.book }
+    pub(crate) fn lend_work(&mut self) -> Option<Loan<B>>
+        ensures book { IsLendingForWork self.old.book (option_map (λ loan. loan.question) result) self.new.book }
+        ensures counts { KeepsCounts self.old self.new }
     {
-        self.book.lend_work()
+        let question = self.book.lend_work()?;
+        Some(Loan::new(question))
     }
 
-    /// Takes a set back.
-    pub(crate) fn take_back(&mut self, inquiry: Inquiry)
-        ensures book { IsTakingBack self.old.book inquiry self.new.book }
+    /// Takes back what was lent.
+    pub(crate) fn take_back(&mut self, loan: Loan<B>)
+        ensures book { IsTakingBack self.old.book loan.question self.new.book }
+        ensures counts { KeepsCounts self.old self.new }
     {
-        self.book.take_back(inquiry);
+        let Loan { question, of: _ } = loan;
+        self.book.take_back(question);
     }
 
     /// Takes at most `n` tasks, and counts them.
@@ -192,6 +227,7 @@ impl<B: BookNaming> Desk<B> {
         ensures taken { IfOk result (λ tasks. tally.new.taken ≤ tally.old.taken + vec_len tasks) }
         ensures delivered { tally.new.delivered ≡ tally.old.delivered }
         ensures refused { IfErr result (λ _. tally.new ≡ tally.old) }
+        ensures counts { (self.new.entered ≡ self.old.entered) × (self.new.totals.given ≡ self.old.totals.given) }
     {
         let tasks = self.book.take(n)?;
         self.totals.take(tasks.len(), tally);
@@ -203,6 +239,7 @@ impl<B: BookNaming> Desk<B> {
         ensures book { IsDelivery self.old.book outcomes.items result self.new.book }
         ensures taken { tally.new.taken ≡ tally.old.taken }
         ensures delivered { tally.new.delivered ≤ tally.old.delivered + vec_len outcomes }
+        ensures counts { (self.new.entered ≡ self.old.entered) × (self.new.totals.given ≡ self.old.totals.given) }
     {
         let _counted = self.totals.results();
         let delivered = self.book.deliver(outcomes);
@@ -212,7 +249,9 @@ impl<B: BookNaming> Desk<B> {
 
     /// A new tally.
     pub(crate) fn tally(&mut self) -> Option<Tally<B>>
-        ensures { IfSome result (λ tally. tally ≡ nothing_counted) }
+        ensures tally { MatchOption result (self.old.totals.given ≡ MOST_TALLIES) (λ tally. (tally ≡ nothing_counted) × (self.old.totals.given < MOST_TALLIES)) }
+        ensures given { MatchOption result (self.new.totals.given ≡ self.old.totals.given) (λ _. self.new.totals.given ≡ self.old.totals.given + 1) }
+        ensures others { (self.new.book ≡ self.old.book) × (self.new.entered ≡ self.old.entered) }
     {
         self.totals.tally()
     }

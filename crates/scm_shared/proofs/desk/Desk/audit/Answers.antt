@@ -16,13 +16,14 @@ loop-pass-preserved g c =
     let journal = c.self.inside.book.journal in
     let fit : Fits journal c.in-Some.pass = subst (λ (log : List EntryData). Fits log c.in-Some.pass) (ap (λ me. me.0.log) i.1) t.fits in
     let given : c.in-Some.pass.number < c.self.inside.entered = subst (λ (entered : ℕ). c.in-Some.pass.number < entered) (ap (λ me. me.0.entered) i.1) t.given in
-    let parts = t.parts in let amount = t.amount in let i3 = i.3 in let i4 = i.4 in (
+    let parts = t.parts.0 in let apart = t.parts.1 in let seats = c.self.invariant.6 in let amount = t.amount in let i3 = i.3 in let i4 = i.4 in (
       t.seat.0,
       t.seat.1 ∙ i.1,
       one_more (λ (p : Known). Fits journal p) c.loop-pass.yielded c.in-Some.pass i.2 fit,
       omega (arith, parts, i3, length-append c.loop-pass.yielded (c.in-Some.pass ∷ [])),
       omega (arith, amount, i4, sum_by_push (λ (p : Known). length p.made) c.loop-pass.yielded c.in-Some.pass),
       one_more (λ (p : Known). p.number < c.self.inside.entered) c.loop-pass.yielded c.in-Some.pass i.5 given,
+      omega (arith, apart, seats),
     )
 
 pub returns-clause-fits : goal.returns-clause-fits

@@ -1,4 +1,4 @@
-use Rattle.std.proofs.Common.{◌≡◌, ◌+◌, ◌<◌, length, sum_by}
+use Rattle.std.proofs.Common.{◌≡◌, ◌+◌, ◌<◌, ◌≤◌, length, sum_by}
 use Rattle.std.specs.Prelude.{All}
 use Rattle.scm_sequences.specs.declared.limits.TheConstants.{MOST_SESSIONS}
 use Rattle.scm_shared.specs.Rule.{Fits}
@@ -14,3 +14,4 @@ invariant-loop-pass g l =
     × (l.all.parts + l.entered ≡ MOST_SESSIONS + 1 + length l.yielded)
     × (l.all.amount ≡ sum_by (λ pass. length pass.made) l.yielded)
     × All (λ pass. pass.number < l.entered) l.yielded
+    × (l.all.parts ≤ MOST_SESSIONS + 1)
