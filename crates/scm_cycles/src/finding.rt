@@ -1,4 +1,5 @@
 //! A short refutation.
+use crate::conflict::Conflict;
 use crate::gathering::gather;
 use crate::search::Search;
 use scm_orders::Derivation;
@@ -22,8 +23,16 @@ pub fn find_cycle(
 ) -> Option<Derivation> {
     let fuel = fuel_for(lengths);
     let mut search = Search::new(alloc, initials, sequences, lengths, fuel)?;
-    let closing = search.run()?;
-    gather(alloc, &search, closing)
+    let conflict = refute(&mut search)?;
+    gather(alloc, &search, &conflict)
+}
+
+// Without cases first, since what is found so is short.
+fn refute(search: &mut Search) -> Option<Conflict> {
+    match search.run()? {
+        Some(closing) => search.explain(closing),
+        None => search.argue(),
+    }
 }
 
 fn fuel_for(lengths: &Lengths) -> u64 {

@@ -3,14 +3,30 @@
 //! `scm_orders::orders_refute` is the judge.
 #![tactic(auto)]
 
+mod asserting;
+mod cases;
+mod choices;
+mod choosing;
+mod claims;
+mod clauses;
+mod conflict;
 mod evidence;
 mod finding;
 mod gathering;
 mod lines;
+mod pieces;
+mod readers;
 mod rises;
 mod rules;
 mod search;
+mod settled;
 mod steps;
+mod touching;
+mod trail;
+mod truth;
 mod views;
+mod waiting;
+mod watching;
+mod ways;
 
 pub use finding::find_cycle;

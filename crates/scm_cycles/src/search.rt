@@ -1,6 +1,13 @@
 //! What comes before what in every legal schedule, as far as it was drawn.
+use crate::claims::Claim;
+use crate::choices::Choices;
+use crate::clauses::Clauses;
+use crate::readers::Readers;
 use crate::rises::Rises;
+use crate::settled::Settled;
 use crate::steps::{Need, Steps, Why};
+use crate::trail::Trail;
+use crate::waiting::Waiting;
 use scm_clocks::{Clocks, Flags, Numbering, Values, Writers, Writes};
 use scm_orders::Place;
 use scm_sequences::{Lengths, Sequences};
@@ -18,17 +25,21 @@ pub(crate) struct Search {
     pub(crate) values: Values,
     pub(crate) writes: Writes,
     pub(crate) writers: Writers,
+    pub(crate) readers: Readers,
     pub(crate) steps: Steps,
     pub(crate) procs: u32,
     pub(crate) ops: u32,
-    /// The step that tells which write a read sees, once that is drawn.
-    pub(crate) sources: Vec<Option<u32>>,
-    /// The value that an unset cell held at first, and the step that tells so, once that is drawn.
-    pub(crate) firsts: Vec<Option<(u32, u32)>>,
-    clocks: Clocks,
-    rises: Rises,
+    /// What reads see, so far.
+    pub(crate) settled: Settled,
+    /// What is to be looked at again, once cases are tried.
+    pub(crate) waiting: Waiting,
+    pub(crate) trail: Trail,
+    pub(crate) choices: Choices,
+    pub(crate) clauses: Clauses,
+    pub(crate) clocks: Clocks,
+    pub(crate) rises: Rises,
     /// What has new clocks to bring to those after it.
-    flags: Flags,
+    pub(crate) flags: Flags,
     /// The step that closed a cycle, if one did.
     pub(crate) closing: Option<u32>,
     pub(crate) fuel: u64,
@@ -53,6 +64,7 @@ impl Search {
         let (procs, ops) = (numbering.procs()?, numbering.len()?);
         let writes = Writes::new(alloc, CELLS, &numbering, &values)?;
         let writers = Writers::new(alloc, &numbering, &values)?;
+        let readers = Readers::new(alloc, &numbering, &values)?;
         let clocks = Clocks::new(alloc, &numbering)?;
         Some(Search {
             alloc,
@@ -60,11 +72,15 @@ impl Search {
             values,
             writes,
             writers,
+            readers,
             steps: Steps::new(alloc, ops)?,
             procs,
             ops,
-            sources: vec![in alloc; None; ops as usize].ok()?,
-            firsts: vec![in alloc; None; CELLS as usize].ok()?,
+            settled: Settled::new(alloc, ops, CELLS)?,
+            waiting: Waiting::new(alloc, ops)?,
+            trail: Trail::new(alloc),
+            choices: Choices::new(alloc, ops)?,
+            clauses: Clauses::new(alloc, ops)?,
             clocks,
             rises: Rises::new(alloc, procs)?,
             flags: Flags::new(alloc, ops)?,
@@ -132,7 +148,7 @@ impl Search {
             let spot = self.numbering.spot(x)?;
             let id = self.rises.first(spot, process, at.checked_add(1)?)?;
             path.push(id).ok()?;
-            x = self.steps.get(id)?.from;
+            x = self.steps.get(id)?.claim.from;
         }
         None
     }
@@ -149,12 +165,14 @@ impl Search {
     }
 
     /// Draws an order, with all that it brings to the clocks. Gives its number.
-    pub(crate) fn draw(&mut self, from: u32, to: u32, why: Why, needs: &[Need]) -> Option<u32> {
-        let id = self.steps.add(from, to, why, needs)?;
+    pub(crate) fn draw(&mut self, claim: Claim, why: Why, needs: &[Need]) -> Option<u32> {
+        let Claim { from, to, .. } = claim;
+        let id = self.steps.add(claim, why, self.trail.level(), needs)?;
         if from == to || self.is_before(to, from)? {
             self.closing = Some(id);
             return Some(id);
         }
+        self.touch_before(from, to)?;
         if self.absorb(to, from, Some(id))? {
             self.flags.add(to)?;
             self.spread()?;
@@ -184,7 +202,7 @@ impl Search {
             let Some(id) = leaving else {
                 break;
             };
-            let to = self.steps.get(id)?.to;
+            let to = self.steps.get(id)?.claim.to;
             self.follow(to, x, leaving)?;
             leaving = self.steps.older(id);
         }
@@ -208,6 +226,9 @@ impl Search {
                 self.raise(y, process, count, by)?;
                 is_new = true;
             }
+        }
+        if is_new {
+            self.waiting.raised(y)?;
         }
         Some(is_new)
     }
