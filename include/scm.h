@@ -149,13 +149,15 @@ enum {
 };
 
 /* Fields of a line: what it says of SCM_FROM and SCM_TO, operation _AT of process _PROCESS, in every legal schedule; by which rule;
- * and for SCM_HIDDEN_BY the operation SCM_BY that hides. All as docs/LANGUAGE.md has them. */
+ * for SCM_HIDDEN_BY the operation SCM_BY that hides; for SCM_LEMMA the line that ends the block, in SCM_BY_AT. All as
+ * docs/LANGUAGE.md has them: a line belongs to the block that SCM_ASSUMED begins until a line puts an operation before itself. */
 enum { SCM_SAYS, SCM_FROM_PROCESS, SCM_FROM_AT, SCM_TO_PROCESS, SCM_TO_AT, SCM_RULE, SCM_BY_PROCESS, SCM_BY_AT };
 
-/* What a line says: FROM stands before TO; TO sees FROM; TO sees first contents, and FROM is 0, 0; FROM is hidden from TO. */
-enum { SCM_BEFORE, SCM_SEES, SCM_SEES_FIRST, SCM_HIDDEN };
+/* What a line says: FROM stands before TO; TO sees FROM; TO sees first contents, and FROM is 0, 0; FROM is hidden from TO; TO doesn't
+ * see FROM; TO doesn't see first contents, and FROM is 0, 0. */
+enum { SCM_BEFORE, SCM_SEES, SCM_SEES_FIRST, SCM_HIDDEN, SCM_UNSEEN, SCM_UNSEEN_FIRST };
 
-enum { SCM_JOINED, SCM_HIDDEN_BY, SCM_SOURCE, SCM_AFTER_ALL, SCM_BEFORE_ALL, SCM_AFTER_SOURCE };
+enum { SCM_JOINED, SCM_HIDDEN_BY, SCM_SOURCE, SCM_AFTER_ALL, SCM_BEFORE_ALL, SCM_AFTER_SOURCE, SCM_ASSUMED, SCM_LEMMA };
 
 enum { SCM_LONGEST_LINE = 4096, SCM_LONGEST_NAME = 32, SCM_MOST_CELLS = 64 };
 

@@ -3,9 +3,9 @@ use Rattle.std.specs.Prelude.{ℕ, ◌==◌, if◌then◌else◌, List, [], ◌�
 use Rattle.scm_frontier.specs.Situated.{Situated}
 use Rattle.scm_orders.specs.declared.place.Place.{Place}
 use Rattle.scm_orders.specs.declared.derivation.Fact.{Fact}
-use Rattle.scm_orders.specs.declared.derivation.Fact.TheVariants.{Before, Sees, SeesFirst, Hidden}
+use Rattle.scm_orders.specs.declared.derivation.Fact.TheVariants.{Before, Sees, SeesFirst, Hidden, Unseen, UnseenFirst}
 use Rattle.scm_orders.specs.declared.derivation.Rule.{Rule}
-use Rattle.scm_orders.specs.declared.derivation.Rule.TheVariants.{Joined, Hidden as HiddenBy, Source, AfterAll, BeforeAll, AfterSource}
+use Rattle.scm_orders.specs.declared.derivation.Rule.TheVariants.{Joined, Hidden as HiddenBy, Source, AfterAll, BeforeAll, AfterSource, Assumed, Lemma}
 use Rattle.scm_orders.specs.declared.derivation.Line.{Line}
 use Rattle.scm_orders.specs.Refuting.{hints_of}
 use Rattle.scm_book.specs.Calls.{ReplyData, reply_data, done, marked, consistent, inconsistent, undecided, because, cycle, unknown, ops, listed, refused}
@@ -43,8 +43,11 @@ fact_parts (Before from to) = (0, from, to)
 fact_parts (Sees write read) = (1, write, read)
 fact_parts (SeesFirst read) = (2, nowhere, read)
 fact_parts (Hidden write read) = (3, write, read)
+fact_parts (Unseen write read) = (4, write, read)
+fact_parts (UnseenFirst read) = (5, nowhere, read)
 
--- the number of a rule, and the operation that hides, nowhere where there is none
+-- the number of a rule, and the operation that hides, nowhere where there is none; the line that ends a block stands as a
+-- place there
 abbrev pub rule_parts : Rule → ℕ × Place
 rule_parts Joined = (0, nowhere)
 rule_parts (HiddenBy by) = (1, by)
@@ -52,6 +55,8 @@ rule_parts Source = (2, nowhere)
 rule_parts AfterAll = (3, nowhere)
 rule_parts BeforeAll = (4, nowhere)
 rule_parts AfterSource = (5, nowhere)
+rule_parts Assumed = (6, nowhere)
+rule_parts (Lemma end) = (7, record { process = 0; at = end })
 
 -- a line of a short refutation: what it says of which two operations, by which rule, and what hides
 abbrev pub line_numbers : Line → List ℕ

@@ -21,10 +21,13 @@ fn fact_parts(fact: Fact) -> (u64, Place, Place)
         Fact::Sees { write, read } => (1, write, read),
         Fact::SeesFirst { read } => (2, nowhere(), read),
         Fact::Hidden { write, read } => (3, write, read),
+        Fact::Unseen { write, read } => (4, write, read),
+        Fact::UnseenFirst { read } => (5, nowhere(), read),
     }
 }
 
-/// The number of a rule, and the operation that hides, nowhere where there is none.
+/// The number of a rule, and the operation that hides, nowhere where there is none. The line that ends a block stands as
+/// a place there.
 fn rule_parts(rule: Rule) -> (u64, Place)
     ensures { result ≡ rule_parts rule }
 {
@@ -35,6 +38,14 @@ fn rule_parts(rule: Rule) -> (u64, Place)
         Rule::AfterAll => (3, nowhere()),
         Rule::BeforeAll => (4, nowhere()),
         Rule::AfterSource => (5, nowhere()),
+        Rule::Assumed => (6, nowhere()),
+        Rule::Lemma { end } => (
+            7,
+            Place {
+                process: 0,
+                at: end,
+            },
+        ),
     }
 }
 

@@ -142,6 +142,7 @@ fn add_line(rt: &impl Abort, derivation: &mut Derivation, text: &str) {
             rule,
             first: u32::try_from(first).expect(rt, "a number"),
             count: u32::try_from(count).expect(rt, "a number"),
+            block: None,
         })
         .expect(rt, "memory");
 }
@@ -189,6 +190,7 @@ fn is_refuted_by(rt: &impl Abort, alloc: Global, first: u32, count: u32, more: u
             rule: Rule::AfterAll,
             first,
             count,
+            block: None,
         })
         .expect(rt, "memory");
     for _ in 0..more {

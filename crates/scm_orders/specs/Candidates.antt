@@ -4,7 +4,7 @@ use Rattle.scm_sequences.specs.Traces.{Trace, initial_of}
 use Rattle.scm_orders.specs.declared.place.Place.{Place}
 use Rattle.scm_orders.specs.declared.cut_trace.Reading.{Reading}
 use Rattle.scm_orders.specs.declared.derivation.Fact.{Fact}
-use Rattle.scm_orders.specs.declared.derivation.Fact.TheVariants.{Before, Sees, SeesFirst, Hidden}
+use Rattle.scm_orders.specs.declared.derivation.Fact.TheVariants.{Before, Sees, SeesFirst, Hidden, Unseen, UnseenFirst}
 use Rattle.scm_orders.specs.declared.derivation.Line.{Line}
 use Rattle.scm_orders.specs.declared.candidates.Left.{Left}
 use Rattle.scm_orders.specs.declared.candidates.Left.TheVariants.{Write, First, After, Before as Until}
@@ -17,12 +17,15 @@ use Rattle.scm_orders.specs.Facts.{order_of, Shows, SomeHint}
 abbrev pub Overwrites : Trace → Fact → Reading → Place → Type 0
 Overwrites t fact read write = IsSomeAnd (order_of fact) (λ order. IsEarlier write order.0 × IsSome (written_at t order.0 read.cell) × IsUpTo order.1 read.place)
 
--- the fact says that the read sees something else, or that the write or a later one of its process is hidden from it
+-- the fact says that the read doesn't see the write, or sees something else, or that the write or a later one of its process
+-- is hidden from it
 abbrev pub Denies : Fact → Place → Place → Type 0
 Denies (Before from to) read write = ⊥
 Denies (Sees seen by) read write = (by ≡ read) × (seen ≢ write)
 Denies (SeesFirst by) read write = by ≡ read
 Denies (Hidden hidden from) read write = (from ≡ read) × IsUpTo write hidden
+Denies (Unseen unseen by) read write = (by ≡ read) × (unseen ≡ write)
+Denies (UnseenFirst by) read write = ⊥
 
 -- by the fact the read doesn't see the write
 abbrev pub RulesOut : Trace → Fact → Reading → Place → Type 0
@@ -32,16 +35,18 @@ RulesOut t fact read write = Shows fact read.place write ⊎ Overwrites t fact r
 abbrev pub PutsWriteBefore : Trace → Fact → Reading → Type 0
 PutsWriteBefore t fact read = IsSomeAnd (order_of fact) (λ order. IsSome (written_at t order.0 read.cell) × IsUpTo order.1 read.place)
 
--- the fact says that an operation which sees first contents read another value of the cell
-abbrev pub SaysOtherFirst : Trace → Fact → Reading → Type 0
-SaysOtherFirst t (Before from to) read = ⊥
-SaysOtherFirst t (Sees write by) read = ⊥
-SaysOtherFirst t (SeesFirst by) read = ReadsOther t by read.cell read.value
-SaysOtherFirst t (Hidden write from) read = ⊥
+-- the fact says so, or that an operation which sees first contents read another value of the cell
+abbrev pub DeniesFirst : Trace → Fact → Reading → Type 0
+DeniesFirst t (Before from to) read = ⊥
+DeniesFirst t (Sees write by) read = ⊥
+DeniesFirst t (SeesFirst by) read = ReadsOther t by read.cell read.value
+DeniesFirst t (Hidden write from) read = ⊥
+DeniesFirst t (Unseen write by) read = ⊥
+DeniesFirst t (UnseenFirst by) read = by ≡ read.place
 
 -- by the fact the read doesn't see first contents
 abbrev pub RulesOutFirst : Trace → Fact → Reading → Type 0
-RulesOutFirst t fact read = PutsWriteBefore t fact read ⊎ SaysOtherFirst t fact read
+RulesOutFirst t fact read = PutsWriteBefore t fact read ⊎ DeniesFirst t fact read
 
 -- ---- what is left
 

@@ -3,7 +3,7 @@ use Rattle.std.specs.Prelude.{ℕ, List, [], ◌∷◌, Any, Option, None, Some,
 use Rattle.std.specs.Option.{option_map}
 use Rattle.scm_orders.specs.declared.place.Place.{Place}
 use Rattle.scm_orders.specs.declared.derivation.Fact.{Fact}
-use Rattle.scm_orders.specs.declared.derivation.Fact.TheVariants.{Before, Sees, SeesFirst, Hidden}
+use Rattle.scm_orders.specs.declared.derivation.Fact.TheVariants.{Before, Sees, SeesFirst, Hidden, Unseen, UnseenFirst}
 use Rattle.scm_orders.specs.declared.derivation.Line.{Line}
 use Rattle.scm_orders.specs.Places.{IsUpTo, IsEarlier}
 
@@ -13,6 +13,8 @@ order_of (Before from to) = Some (from, to)
 order_of (Sees write read) = Some (write, read)
 order_of (SeesFirst read) = None
 order_of (Hidden write read) = Some (write, read)
+order_of (Unseen write read) = None
+order_of (UnseenFirst read) = None
 
 -- the fact puts the one operation before the other, by the order of processes at both ends
 abbrev pub Shows : Fact → Place → Place → Type 0

@@ -3,10 +3,10 @@ use Rattle.std.specs.Prelude.{ℕ, ◌≡◌, ◌≢◌, ◌<◌, ◌≤◌, Lis
 use Rattle.scm_sequences.specs.Traces.{Trace}
 use Rattle.scm_orders.specs.declared.place.Place.{Place}
 use Rattle.scm_orders.specs.declared.derivation.Fact.{Fact}
-use Rattle.scm_orders.specs.declared.derivation.Fact.TheVariants.{Before, Sees, SeesFirst, Hidden}
+use Rattle.scm_orders.specs.declared.derivation.Fact.TheVariants.{Before, Sees, SeesFirst, Hidden, Unseen, UnseenFirst}
 use Rattle.scm_orders.specs.declared.derivation.Line.{Line}
 use Rattle.scm_orders.specs.declared.derivation.Rule.{Rule}
-use Rattle.scm_orders.specs.declared.derivation.Rule.TheVariants.{Joined, Hidden as HiddenBy, Source, AfterAll, BeforeAll, AfterSource}
+use Rattle.scm_orders.specs.declared.derivation.Rule.TheVariants.{Joined, Hidden as HiddenBy, Source, AfterAll, BeforeAll, AfterSource, Assumed, Lemma}
 use Rattle.scm_orders.specs.declared.derivation.TheConstants.{MOST_HINTS}
 use Rattle.scm_orders.specs.declared.candidates.Left.TheVariants.{Write, First, After, Before as Until}
 use Rattle.scm_orders.specs.Places.{operation_at, WritesWhatIsRead}
@@ -38,6 +38,8 @@ HasReader t earlier hints write source (Before from to) = ⊥
 HasReader t earlier hints write source (Sees seen read) = (seen ≡ source) × IsWriteBefore t earlier hints write read
 HasReader t earlier hints write source (SeesFirst read) = ⊥
 HasReader t earlier hints write source (Hidden hidden read) = ⊥
+HasReader t earlier hints write source (Unseen unseen read) = ⊥
+HasReader t earlier hints write source (UnseenFirst read) = ⊥
 
 -- a hint says that 'source' is what a read sees, and 'write', another write of the cell, stands before that read
 pub record IsAfterSource (t : Trace) (earlier : List Line) (hints : List ℕ) (write source : Place) : Type 0 where
@@ -53,6 +55,8 @@ IsOrdered t earlier hints from to Source = ⊥
 IsOrdered t earlier hints from to AfterAll = Leaves t earlier hints to (After from)
 IsOrdered t earlier hints from to BeforeAll = IsBeforeAll t earlier hints from to
 IsOrdered t earlier hints from to AfterSource = IsAfterSource t earlier hints from to
+IsOrdered t earlier hints from to Assumed = ⊥
+IsOrdered t earlier hints from to (Lemma end) = ⊥
 
 abbrev pub IsSource : Rule → Type 0
 IsSource Source = ⊤
@@ -65,12 +69,16 @@ IsHiddenBy t earlier hints write read Source = ⊥
 IsHiddenBy t earlier hints write read AfterAll = ⊥
 IsHiddenBy t earlier hints write read BeforeAll = ⊥
 IsHiddenBy t earlier hints write read AfterSource = ⊥
+IsHiddenBy t earlier hints write read Assumed = ⊥
+IsHiddenBy t earlier hints write read (Lemma end) = ⊥
 
 abbrev pub FollowsBy : Trace → List Line → List ℕ → Fact → Rule → Type 0
 FollowsBy t earlier hints (Before from to) rule = IsOrdered t earlier hints from to rule
 FollowsBy t earlier hints (Sees write read) rule = IsSource rule × Leaves t earlier hints read (Write write)
 FollowsBy t earlier hints (SeesFirst read) rule = IsSource rule × Leaves t earlier hints read First
 FollowsBy t earlier hints (Hidden write read) rule = IsHiddenBy t earlier hints write read rule
+FollowsBy t earlier hints (Unseen write read) rule = ⊥
+FollowsBy t earlier hints (UnseenFirst read) rule = ⊥
 
 -- ---- lines
 
@@ -89,6 +97,8 @@ IsOf t (Before from to) = AreOperations t from to
 IsOf t (Sees write read) = AreOperations t write read
 IsOf t (SeesFirst read) = IsSome (operation_at t read)
 IsOf t (Hidden write read) = AreOperations t write read
+IsOf t (Unseen write read) = AreOperations t write read
+IsOf t (UnseenFirst read) = IsSome (operation_at t read)
 
 -- the line follows from the trace and the earlier lines, with these hints
 pub record Follows (t : Trace) (earlier : List Line) (hints : List ℕ) (line : Line) : Type 0 where

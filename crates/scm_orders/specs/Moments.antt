@@ -6,7 +6,7 @@ use Rattle.scm_sequences.specs.Traces.{Trace}
 use Rattle.scm_sequences.specs.Fronts.{count_in}
 use Rattle.scm_orders.specs.declared.place.Place.{Place}
 use Rattle.scm_orders.specs.declared.derivation.Fact.{Fact}
-use Rattle.scm_orders.specs.declared.derivation.Fact.TheVariants.{Before, Sees, SeesFirst, Hidden}
+use Rattle.scm_orders.specs.declared.derivation.Fact.TheVariants.{Before, Sees, SeesFirst, Hidden, Unseen, UnseenFirst}
 use Rattle.scm_orders.specs.Places.{read_at, written_at}
 
 -- how many places of the schedule stand before the operation at this place
@@ -41,3 +41,5 @@ Says t schedule (Before from to) = moment schedule from < moment schedule to
 Says t schedule (Sees write read) = ReadsCell t read (λ cell. IsLastBefore t schedule cell write read)
 Says t schedule (SeesFirst read) = ReadsCell t read (λ cell. HasNoneBefore t schedule cell read)
 Says t schedule (Hidden write read) = ReadsCell t read (λ cell. HasWriteBetween t schedule cell write read)
+Says t schedule (Unseen write read) = ReadsCell t read (λ cell. IsLastBefore t schedule cell write read) → ⊥
+Says t schedule (UnseenFirst read) = ReadsCell t read (λ cell. HasNoneBefore t schedule cell read) → ⊥

@@ -3,7 +3,7 @@ ghost use Rattle.std.specs.Prelude.{ℕ, ◌≢◌, ◌<◌, ◌⊎◌, ◌↔�
 ghost use Rattle.scm_sequences.specs.Traces.{initial_of};
 ghost use Rattle.scm_orders.specs.Places.{WritesWhatIsRead};
 ghost use Rattle.scm_orders.specs.Facts.{fact_at as known_at, SomeHint};
-ghost use Rattle.scm_orders.specs.Candidates.{Overwrites, Denies, RulesOut, PutsWriteBefore, SaysOtherFirst, RulesOutFirst, HasFirst, Has, HasBy, IsSettled, IsFirstSettled, LeavesOnly, Leaves};
+ghost use Rattle.scm_orders.specs.Candidates.{Overwrites, Denies, RulesOut, PutsWriteBefore, DeniesFirst, RulesOutFirst, HasFirst, Has, HasBy, IsSettled, IsFirstSettled, LeavesOnly, Leaves};
 
 use crate::basis::Basis;
 use crate::cut_trace::{CutTrace, Reading};
@@ -69,7 +69,8 @@ fn overwrites(trace: &CutTrace<'_>, fact: Fact, read: Reading, write: Place) -> 
     }
 }
 
-// Whether the fact says that the read sees something else, or that the write or a later one of its process is hidden from it.
+// Whether the fact says that the read doesn't see the write, or sees something else, or that the write or a later one of its
+// process is hidden from it.
 fn denies(fact: Fact, read: Place, write: Place) -> bool
     ensures { IsTrue result ↔ Denies fact read write }
 {
@@ -84,6 +85,11 @@ fn denies(fact: Fact, read: Place, write: Place) -> bool
             write: hidden,
             read: from,
         } => from == read && write.is_up_to(hidden),
+        Fact::Unseen {
+            write: unseen,
+            read: by,
+        } => by == read && unseen == write,
+        Fact::UnseenFirst { .. } => false,
     }
 }
 
@@ -106,15 +112,18 @@ fn puts_write_before(trace: &CutTrace<'_>, fact: Fact, read: Reading) -> bool
     }
 }
 
-// Whether the fact says that an operation which sees first contents read another value of the cell.
-fn says_other_first(trace: &CutTrace<'_>, fact: Fact, read: Reading) -> bool
-    ensures { IsTrue result ↔ SaysOtherFirst trace.now fact read }
+// Whether the fact says so, or that an operation which sees first contents read another value of the cell.
+fn denies_first(trace: &CutTrace<'_>, fact: Fact, read: Reading) -> bool
+    ensures { IsTrue result ↔ DeniesFirst trace.now fact read }
 {
     match fact {
         Fact::SeesFirst { read: by } => trace
             .read(by, read.cell)
             .is_some_and(|other| other != read.value),
-        Fact::Before { .. } | Fact::Sees { .. } | Fact::Hidden { .. } => false,
+        Fact::UnseenFirst { read: by } => by == read.place,
+        Fact::Before { .. } | Fact::Sees { .. } | Fact::Hidden { .. } | Fact::Unseen { .. } => {
+            false
+        }
     }
 }
 
@@ -123,8 +132,7 @@ fn hint_rules_out_first(on: &Basis<'_>, hint: u32, read: Reading) -> bool
     ensures { IsTrue result ↔ IsSomeAnd (known_at on.now.earlier.now hint) (λ fact. RulesOutFirst on.now.trace.now fact read) }
 {
     match fact_at(on.earlier, hint) {
-        Some(fact) => puts_write_before(on.trace, fact, read)
-            || says_other_first(on.trace, fact, read),
+        Some(fact) => puts_write_before(on.trace, fact, read) || denies_first(on.trace, fact, read),
         None => false,
     }
 }

@@ -20,6 +20,10 @@ pub enum Fact {
     /// Another write of the cell stands between the write and the read: so the read sees neither the write nor an earlier
     /// one of its process.
     Hidden { write: Place, read: Place },
+    /// The read doesn't see this write.
+    Unseen { write: Place, read: Place },
+    /// The read doesn't see first contents.
+    UnseenFirst { read: Place },
 }
 
 /// Why a fact follows from the trace and from the facts of its hints.
@@ -38,16 +42,22 @@ pub enum Rule {
     BeforeAll,
     /// The second operation is what a read sees, and the first one, another write of the cell, stands before that read.
     AfterSource,
+    /// It is supposed: a case, for the lines of its block.
+    Assumed,
+    /// The block that ends at line `end` is closed: what it supposes isn't all so. By the hints all of it is but one, and
+    /// the fact is that one's negation.
+    Lemma { end: u32 },
 }
 
 /// A line: what it says, and why. Its hints are numbers of earlier lines: those of its derivation from `first` on, as many
-/// as `count` says.
+/// as `count` says. `block` is the number of the first line of its block, `None` where it stands outside of blocks.
 #[derive(Clone, Copy, Debug, PartialEq, Eq)]
 pub struct Line {
     pub fact: Fact,
     pub rule: Rule,
     pub first: u32,
     pub count: u32,
+    pub block: Option<u32>,
 }
 
 impl Line {
@@ -76,7 +86,7 @@ impl Fact {
         match self {
             Fact::Before { from, to } => Some((from, to)),
             Fact::Sees { write, read } | Fact::Hidden { write, read } => Some((write, read)),
-            Fact::SeesFirst { .. } => None,
+            Fact::SeesFirst { .. } | Fact::Unseen { .. } | Fact::UnseenFirst { .. } => None,
         }
     }
 }

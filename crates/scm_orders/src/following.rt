@@ -42,10 +42,9 @@ fn is_of(trace: &CutTrace<'_>, fact: Fact) -> bool
 {
     match fact {
         Fact::Before { from, to } => are_operations(trace, from, to),
-        Fact::Sees { write, read } | Fact::Hidden { write, read } => {
-            are_operations(trace, write, read)
-        }
-        Fact::SeesFirst { read } => trace.operation(read).is_some(),
+        Fact::Sees { write, read } | Fact::Hidden { write, read } | Fact::Unseen { write, read } =>
+            are_operations(trace, write, read),
+        Fact::SeesFirst { read } | Fact::UnseenFirst { read } => trace.operation(read).is_some(),
     }
 }
 
@@ -65,6 +64,7 @@ fn follows_by(on: &Basis<'_>, fact: Fact, rule: Rule) -> bool
         Fact::Sees { write, read } => { is_source(rule) && leaves(on, read, Left::Write(write)) }
         Fact::SeesFirst { read } => { is_source(rule) && leaves(on, read, Left::First) }
         Fact::Hidden { write, read } => is_hidden_by(on, write, read, rule),
+        Fact::Unseen { .. } | Fact::UnseenFirst { .. } => false,
     }
 }
 
@@ -83,7 +83,7 @@ fn is_ordered(on: &Basis<'_>, from: Place, to: Place, rule: Rule) -> bool
         Rule::AfterAll => leaves(on, to, Left::After(from)),
         Rule::BeforeAll => is_before_all(on, from, to),
         Rule::AfterSource => is_after_source(on, from, to),
-        Rule::Hidden { .. } | Rule::Source => false,
+        Rule::Hidden { .. } | Rule::Source | Rule::Assumed | Rule::Lemma { .. } => false,
     }
 }
 

@@ -33,6 +33,7 @@ fn cycle_of_one(alloc: Global, fact: Fact, rule: Rule, hints: &[u32]) -> Result<
         rule,
         first: 1,
         count,
+        block: None,
     })?;
     Ok(Reply::Cycle(Derivation { lines, hints: all }))
 }
@@ -65,6 +66,16 @@ fn short_refutations_have_their_text(rt: HostRuntime) -> Result<(), Fail> {
             Fact::Hidden { write, read },
             Rule::Hidden { by: to },
             "0.3/31.1000000:hidden:31.1000000",
+        ),
+        (
+            Fact::Unseen { write, read },
+            Rule::Assumed,
+            "0.3!31.1000000:assumed",
+        ),
+        (
+            Fact::UnseenFirst { read },
+            Rule::Lemma { end: 4_294_967_295 },
+            "-!31.1000000:lemma:4294967295",
         ),
     ];
     for (fact, rule, word) in table {

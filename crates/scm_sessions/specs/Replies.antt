@@ -6,9 +6,9 @@ use Rattle.scm_sequences.specs.Refusals.{refusal_number, refusal_text}
 use Rattle.scm_frontier.specs.Situated.{Situated}
 use Rattle.scm_orders.specs.declared.place.Place.{Place}
 use Rattle.scm_orders.specs.declared.derivation.Fact.{Fact}
-use Rattle.scm_orders.specs.declared.derivation.Fact.TheVariants.{Before, Sees, SeesFirst, Hidden}
+use Rattle.scm_orders.specs.declared.derivation.Fact.TheVariants.{Before, Sees, SeesFirst, Hidden, Unseen, UnseenFirst}
 use Rattle.scm_orders.specs.declared.derivation.Rule.{Rule}
-use Rattle.scm_orders.specs.declared.derivation.Rule.TheVariants.{Joined, Hidden as HiddenBy, Source, AfterAll, BeforeAll, AfterSource}
+use Rattle.scm_orders.specs.declared.derivation.Rule.TheVariants.{Joined, Hidden as HiddenBy, Source, AfterAll, BeforeAll, AfterSource, Assumed, Lemma}
 use Rattle.scm_orders.specs.declared.derivation.Line.{Line}
 use Rattle.scm_orders.specs.Refuting.{hints_of}
 use Rattle.scm_book.specs.declared.reply.Shown.{Shown}
@@ -63,6 +63,12 @@ fact_text (Before from to) = pair_text from (codes "<") to
 fact_text (Sees write read) = pair_text write (codes "~") read
 fact_text (SeesFirst read) = codes "-~" ++ place_text read
 fact_text (Hidden write read) = pair_text write (codes "/") read
+fact_text (Unseen write read) = pair_text write (codes "!") read
+fact_text (UnseenFirst read) = codes "-!" ++ place_text read
+
+-- the number of an earlier line, with a colon before it
+abbrev pub hint_text : ℕ → List ℕ
+hint_text hint = codes ":" ++ decimal hint
 
 abbrev pub rule_text : Rule → List ℕ
 rule_text Joined = codes "joined"
@@ -71,10 +77,8 @@ rule_text Source = codes "source"
 rule_text AfterAll = codes "after-all"
 rule_text BeforeAll = codes "before-all"
 rule_text AfterSource = codes "after-source"
-
--- the number of an earlier line, with a colon before it
-abbrev pub hint_text : ℕ → List ℕ
-hint_text hint = codes ":" ++ decimal hint
+rule_text Assumed = codes "assumed"
+rule_text (Lemma end) = codes "lemma" ++ hint_text end
 
 -- a line with its hints, which are among these, and a space before it: what it says, and why
 abbrev pub line_text : List ℕ → Line → List ℕ

@@ -45,7 +45,22 @@ impl<W: Write> Port<W> {
                 self.put_place(read);
             }
             Fact::Hidden { write, read } => self.put_pair(write, b"/", read),
+            Fact::Unseen { write, read } => self.put_pair(write, b"!", read),
+            Fact::UnseenFirst { read } => {
+                self.put(b"-!");
+                self.put_place(read);
+            }
         }
+    }
+
+    /// Puts the number of an earlier line, with a colon before it.
+    fn put_hint(&mut self, hint: u32)
+        ensures bytes { Sends (W.contents (inner_of self.old)) (has_failed self.old)
+            (W.contents (inner_of self.new)) (has_failed self.new) (hint_text hint) }
+        ensures reads { reads_of self.new ≡ reads_of self.old }
+    {
+        self.put(b":");
+        self.put_number(u64::from(hint));
     }
 
     /// Puts why it follows.
@@ -64,17 +79,12 @@ impl<W: Write> Port<W> {
             Rule::AfterAll => self.put(b"after-all"),
             Rule::BeforeAll => self.put(b"before-all"),
             Rule::AfterSource => self.put(b"after-source"),
+            Rule::Assumed => self.put(b"assumed"),
+            Rule::Lemma { end } => {
+                self.put(b"lemma");
+                self.put_hint(end);
+            }
         }
-    }
-
-    /// Puts a hint, with a colon before it.
-    fn put_hint(&mut self, hint: u32)
-        ensures bytes { Sends (W.contents (inner_of self.old)) (has_failed self.old)
-            (W.contents (inner_of self.new)) (has_failed self.new) (hint_text hint) }
-        ensures reads { reads_of self.new ≡ reads_of self.old }
-    {
-        self.put(b":");
-        self.put_number(u64::from(hint));
     }
 
     /// Puts each of these hints.

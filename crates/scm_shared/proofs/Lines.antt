@@ -3,9 +3,9 @@ use Rattle.std.proofs.Common.{rules, ◌≡◌, Bool, ◌&&◌, ◌==◌}
 use Rattle.std.specs.Bool.{Decides}
 use Rattle.scm_orders.specs.declared.place.Place.{Place}
 use Rattle.scm_orders.specs.declared.derivation.Fact.{Fact}
-use Rattle.scm_orders.specs.declared.derivation.Fact.TheVariants.{Before, Sees, SeesFirst, Hidden}
+use Rattle.scm_orders.specs.declared.derivation.Fact.TheVariants.{Before, Sees, SeesFirst, Hidden, Unseen, UnseenFirst}
 use Rattle.scm_orders.specs.declared.derivation.Rule.{Rule}
-use Rattle.scm_orders.specs.declared.derivation.Rule.TheVariants.{Joined, Hidden as HiddenBy, Source, AfterAll, BeforeAll, AfterSource}
+use Rattle.scm_orders.specs.declared.derivation.Rule.TheVariants.{Joined, Hidden as HiddenBy, Source, AfterAll, BeforeAll, AfterSource, Assumed, Lemma}
 use Rattle.scm_orders.specs.declared.derivation.Line.{Line}
 use Rattle.scm_orders.specs.contracts.place.PlacePartialEq.TheImpl as places
 use Rattle.scm_orders.specs.contracts.derivation.FactPartialEq.TheImpl as facts
@@ -20,6 +20,8 @@ fact_eq-Decides (Before from to) b = search (rules, place_eq-Decides)
 fact_eq-Decides (Sees write read) b = search (rules, place_eq-Decides)
 fact_eq-Decides (SeesFirst read) b = search (rules, place_eq-Decides)
 fact_eq-Decides (Hidden write read) b = search (rules, place_eq-Decides)
+fact_eq-Decides (Unseen write read) b = search (rules, place_eq-Decides)
+fact_eq-Decides (UnseenFirst read) b = search (rules, place_eq-Decides)
 
 rule_eq-Decides : (a b : Rule) → Decides (rules_of.ghosts.eq a b) (a ≡ b)
 rule_eq-Decides Joined b = search rules
@@ -28,6 +30,8 @@ rule_eq-Decides Source b = search rules
 rule_eq-Decides AfterAll b = search rules
 rule_eq-Decides BeforeAll b = search rules
 rule_eq-Decides AfterSource b = search rules
+rule_eq-Decides Assumed b = search rules
+rule_eq-Decides (Lemma end) b = search rules
 
 line_Decides : (fact rule : Bool) (a b : Line) → Decides fact (a.fact ≡ b.fact) → Decides rule (a.rule ≡ b.rule)
     → Decides (fact && (rule && (a.first == b.first && a.count == b.count))) (a ≡ b)
