@@ -50,7 +50,8 @@ impl Search {
         if self.settled.first(cell)?.is_some() || self.values.first(cell)?.is_some() {
             return Some(());
         }
-        self.set_first(cell, self.values.found(read)?, id)
+        let value = self.values.found(read)?;
+        self.set_first(cell, value, id)
     }
 
     /// Takes as so what is left of a clause of which all else is false; where that is false too, a contradiction is closed.

@@ -32,6 +32,7 @@ impl Search {
     /// Tries cases, after all is drawn without any, until a contradiction needs none.
     pub(crate) fn argue(&mut self) -> Option<Conflict> {
         self.clocks.record();
+        self.afters.record();
         self.touch_all()?;
         let mut restarts = 1u64;
         let mut count = 0u64;

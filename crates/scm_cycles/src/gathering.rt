@@ -74,16 +74,21 @@ impl<'a> Gathering<'a> {
     }
 
     fn suppose(&mut self) -> Option<()> {
-        for order in &self.conflict.orders {
-            let fact = self.fact_of(Claim::before(order.from, order.to))?;
-            self.lines.add(fact, Rule::Assumed, &[])?;
+        let conflict = self.conflict;
+        for order in &conflict.orders {
+            self.add_supposed(Claim::before(order.from, order.to))?;
         }
-        for id in &self.conflict.steps {
-            let fact = self.fact_of(self.search.steps.get(*id)?.claim)?;
-            let line = self.lines.add(fact, Rule::Assumed, &[])?;
+        for id in &conflict.steps {
+            let claim = self.search.steps.get(*id)?.claim;
+            let line = self.add_supposed(claim)?;
             *self.written.line_of.get_mut(*id as usize)? = Some(line);
         }
         Some(())
+    }
+
+    fn add_supposed(&mut self, claim: Claim) -> Option<u32> {
+        let fact = self.fact_of(claim)?;
+        self.lines.add(fact, Rule::Assumed, &[])
     }
 
     fn mark(&mut self, id: u32) -> Option<()> {

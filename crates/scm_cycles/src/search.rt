@@ -37,12 +37,27 @@ pub(crate) struct Search {
     pub(crate) choices: Choices,
     pub(crate) clauses: Clauses,
     pub(crate) clocks: Clocks,
+    /// For each operation, from which place on the operations of each process come after it.
+    pub(crate) afters: Clocks,
     pub(crate) rises: Rises,
     /// What has new clocks to bring to those after it.
     pub(crate) flags: Flags,
     /// The step that closed a cycle, if one did.
     pub(crate) closing: Option<u32>,
     pub(crate) fuel: u64,
+}
+
+// By the order of each process alone.
+fn afters_of(alloc: Global, numbering: &Numbering, procs: u32) -> Option<Clocks> {
+    let mut afters = Clocks::new(alloc, numbering)?;
+    for x in 0..numbering.len()? {
+        let (owner, at) = numbering.spot(x)?;
+        for process in 0..procs {
+            afters.set(x, process, numbering.count(process)?)?;
+        }
+        afters.set(x, owner, at.checked_add(1)?)?;
+    }
+    Some(afters)
 }
 
 impl Search {
@@ -66,6 +81,7 @@ impl Search {
         let writers = Writers::new(alloc, &numbering, &values)?;
         let readers = Readers::new(alloc, &numbering, &values)?;
         let clocks = Clocks::new(alloc, &numbering)?;
+        let afters = afters_of(alloc, &numbering, procs)?;
         Some(Search {
             alloc,
             numbering,
@@ -82,6 +98,7 @@ impl Search {
             choices: Choices::new(alloc, ops)?,
             clauses: Clauses::new(alloc, ops)?,
             clocks,
+            afters,
             rises: Rises::new(alloc, procs)?,
             flags: Flags::new(alloc, ops)?,
             closing: None,
@@ -113,19 +130,7 @@ impl Search {
 
     /// From which place on the operations of a process come after `x`.
     pub(crate) fn after(&self, x: u32, process: u32) -> Option<u32> {
-        let (mut low, mut high) = (0, self.numbering.count(process)?);
-        for _ in 0..high {
-            if low >= high {
-                break;
-            }
-            let middle = low.midpoint(high);
-            if self.is_before(x, self.numbering.number(process, middle)?)? {
-                high = middle;
-            } else {
-                low = middle.checked_add(1)?;
-            }
-        }
-        Some(low)
+        self.afters.get(x, process)
     }
 
     /// Whether `x` is known to come before `y`.
@@ -238,6 +243,21 @@ impl Search {
             let spot = self.numbering.spot(y)?;
             self.rises.add(spot, process, count, id)?;
         }
-        self.clocks.set(y, process, count)
+        self.clocks.set(y, process, count)?;
+        self.lower(y, process, count)
+    }
+
+    // The first so many operations of a process come before `y`: the last of them that is known to already tells that the
+    // others are.
+    fn lower(&mut self, y: u32, process: u32, count: u32) -> Option<()> {
+        let (owner, place) = self.numbering.spot(y)?;
+        for back in 1..=count {
+            let x = self.numbering.number(process, count.checked_sub(back)?)?;
+            if self.after(x, owner)? <= place {
+                break;
+            }
+            self.afters.set(x, owner, place)?;
+        }
+        Some(())
     }
 }
