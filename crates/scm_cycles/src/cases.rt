@@ -9,6 +9,9 @@ use crate::waiting::Next;
 /// After how many contradictions the cases are chosen anew, at least.
 const UNIT: u64 = 30;
 
+/// The most that is looked at: a second or two.
+const MOST_FUEL: u64 = 1 << 25;
+
 // The numbers 1, 1, 2, 1, 1, 2, 4, 1, 1, 2, ..: at place `n`, from 1.
 fn luby(n: u64) -> u64 {
     let mut rest = n;
@@ -31,6 +34,7 @@ fn highest_power(n: u64) -> u64 {
 impl Search {
     /// Tries cases, after all is drawn without any, until a contradiction needs none.
     pub(crate) fn argue(&mut self) -> Option<Conflict> {
+        self.fuel = self.fuel.min(MOST_FUEL);
         self.clocks.record();
         self.afters.record();
         self.touch_all()?;

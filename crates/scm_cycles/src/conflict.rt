@@ -64,6 +64,7 @@ impl Search {
         if level > 0 {
             self.add_needs_of(&mut conflict, &needs)?;
             self.resolve(&mut conflict)?;
+            self.prune(&mut conflict)?;
         }
         Some(conflict)
     }

@@ -15,6 +15,7 @@ mod finding;
 mod gathering;
 mod lines;
 mod pieces;
+mod pruning;
 mod readers;
 mod rises;
 mod rules;

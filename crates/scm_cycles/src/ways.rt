@@ -71,12 +71,16 @@ impl<'a> Written<'a> {
         way.add(from, from, self.line(id)?)
     }
 
-    // By an order that is supposed, or by steps that suppose nothing.
+    // By an order or a step that is supposed, or by steps that suppose nothing.
     fn add_stretch(&self, way: &mut Way, from: u32, to: u32) -> Option<()> {
         for (at, order) in self.conflict.orders.iter().enumerate() {
             if self.search.covers((order.from, order.to), (from, to))? {
                 return way.add(from, order.from, u32::try_from(at).ok()?);
             }
+        }
+        if let Some(id) = self.search.shown_by(self.conflict, (from, to))? {
+            let start = self.search.steps.get(id)?.claim.from;
+            return way.add(from, start, self.line(id)?);
         }
         for id in &self.search.path(from, to)? {
             if self.search.steps.get(*id)?.level > 0 {
