@@ -35,8 +35,7 @@ impl Search {
     /// Tries cases, after all is drawn without any, until a contradiction needs none.
     pub(crate) fn argue(&mut self) -> Option<Conflict> {
         self.fuel = self.fuel.min(MOST_FUEL);
-        self.clocks.record();
-        self.afters.record();
+        self.look_back()?;
         self.touch_all()?;
         let mut restarts = 1u64;
         let mut count = 0u64;

@@ -108,7 +108,9 @@ impl Search {
     fn resolve(&mut self, conflict: &mut Conflict) -> Option<()> {
         for back in 1..=conflict.closing {
             let id = conflict.closing.checked_sub(back)?;
-            if !*conflict.is_marked.get(id as usize)? || self.steps.get(id)?.level < conflict.level {
+            if !*conflict.is_marked.get(id as usize)?
+                || self.steps.get(id)?.level < conflict.level
+            {
                 continue;
             }
             if conflict.open <= 1 {

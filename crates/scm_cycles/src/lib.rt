@@ -4,6 +4,7 @@
 #![tactic(auto)]
 
 mod asserting;
+mod backward;
 mod cases;
 mod choices;
 mod choosing;

@@ -1,6 +1,7 @@
 //! What comes before what in every legal schedule, as far as it was drawn.
-use crate::claims::Claim;
+use crate::backward::lower;
 use crate::choices::Choices;
+use crate::claims::Claim;
 use crate::clauses::Clauses;
 use crate::readers::Readers;
 use crate::rises::Rises;
@@ -37,27 +38,14 @@ pub(crate) struct Search {
     pub(crate) choices: Choices,
     pub(crate) clauses: Clauses,
     pub(crate) clocks: Clocks,
-    /// For each operation, from which place on the operations of each process come after it.
-    pub(crate) afters: Clocks,
+    /// For each operation, from which place on the operations of each process come after it: once cases are tried.
+    pub(crate) afters: Option<Clocks>,
     pub(crate) rises: Rises,
     /// What has new clocks to bring to those after it.
     pub(crate) flags: Flags,
     /// The step that closed a cycle, if one did.
     pub(crate) closing: Option<u32>,
     pub(crate) fuel: u64,
-}
-
-// By the order of each process alone.
-fn afters_of(alloc: Global, numbering: &Numbering, procs: u32) -> Option<Clocks> {
-    let mut afters = Clocks::new(alloc, numbering)?;
-    for x in 0..numbering.len()? {
-        let (owner, at) = numbering.spot(x)?;
-        for process in 0..procs {
-            afters.set(x, process, numbering.count(process)?)?;
-        }
-        afters.set(x, owner, at.checked_add(1)?)?;
-    }
-    Some(afters)
 }
 
 impl Search {
@@ -81,7 +69,6 @@ impl Search {
         let writers = Writers::new(alloc, &numbering, &values)?;
         let readers = Readers::new(alloc, &numbering, &values)?;
         let clocks = Clocks::new(alloc, &numbering)?;
-        let afters = afters_of(alloc, &numbering, procs)?;
         Some(Search {
             alloc,
             numbering,
@@ -98,7 +85,7 @@ impl Search {
             choices: Choices::new(alloc, ops)?,
             clauses: Clauses::new(alloc, ops)?,
             clocks,
-            afters,
+            afters: None,
             rises: Rises::new(alloc, procs)?,
             flags: Flags::new(alloc, ops)?,
             closing: None,
@@ -130,7 +117,26 @@ impl Search {
 
     /// From which place on the operations of a process come after `x`.
     pub(crate) fn after(&self, x: u32, process: u32) -> Option<u32> {
-        self.afters.get(x, process)
+        match &self.afters {
+            Some(afters) => afters.get(x, process),
+            None => self.search_after(x, process),
+        }
+    }
+
+    fn search_after(&self, x: u32, process: u32) -> Option<u32> {
+        let (mut low, mut high) = (0, self.numbering.count(process)?);
+        for _ in 0..high {
+            if low >= high {
+                break;
+            }
+            let middle = low.midpoint(high);
+            if self.is_before(x, self.numbering.number(process, middle)?)? {
+                high = middle;
+            } else {
+                low = middle.checked_add(1)?;
+            }
+        }
+        Some(low)
     }
 
     /// Whether `x` is known to come before `y`.
@@ -224,11 +230,17 @@ impl Search {
     // Puts `y` after `x` and all that comes before it, by this step, or by the order of their process. Whether something of
     // that is new.
     fn absorb(&mut self, y: u32, x: u32, by: Option<u32>) -> Option<bool> {
+        let (spot, (owner, at)) = (self.numbering.spot(y)?, self.numbering.spot(x)?);
         let mut is_new = false;
         for process in 0..self.procs {
-            let count = self.up_to(x, process)?;
+            let count = if process == owner {
+                at.checked_add(1)?
+            } else {
+                self.before(x, process)?
+            };
             if self.before(y, process)? < count {
-                self.raise(y, process, count, by)?;
+                self.clocks.set(y, process, count)?;
+                self.raise(spot, process, count, by)?;
                 is_new = true;
             }
         }
@@ -238,26 +250,14 @@ impl Search {
         Some(is_new)
     }
 
-    fn raise(&mut self, y: u32, process: u32, count: u32, by: Option<u32>) -> Option<()> {
+    // So many of a process come before this place of its owner, by this step or by the order of its process.
+    fn raise(&mut self, spot: (u32, u32), process: u32, count: u32, by: Option<u32>) -> Option<()> {
         if let Some(id) = by {
-            let spot = self.numbering.spot(y)?;
             self.rises.add(spot, process, count, id)?;
         }
-        self.clocks.set(y, process, count)?;
-        self.lower(y, process, count)
-    }
-
-    // The first so many operations of a process come before `y`: the last of them that is known to already tells that the
-    // others are.
-    fn lower(&mut self, y: u32, process: u32, count: u32) -> Option<()> {
-        let (owner, place) = self.numbering.spot(y)?;
-        for back in 1..=count {
-            let x = self.numbering.number(process, count.checked_sub(back)?)?;
-            if self.after(x, owner)? <= place {
-                break;
-            }
-            self.afters.set(x, owner, place)?;
+        match &mut self.afters {
+            Some(afters) => lower(afters, &self.numbering, spot, process, count),
+            None => Some(()),
         }
-        Some(())
     }
 }

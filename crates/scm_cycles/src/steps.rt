@@ -80,7 +80,13 @@ impl Steps {
     }
 
     /// Adds one, and gives its number.
-    pub(crate) fn add(&mut self, claim: Claim, why: Why, level: u32, needs: &[Need]) -> Option<u32> {
+    pub(crate) fn add(
+        &mut self,
+        claim: Claim,
+        why: Why,
+        level: u32,
+        needs: &[Need],
+    ) -> Option<u32> {
         let id = self.len()?;
         for need in needs {
             self.needs.push(*need).ok()?;

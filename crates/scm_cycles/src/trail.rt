@@ -50,7 +50,7 @@ impl Search {
             steps: self.steps.len()?,
             rises: self.rises.len(),
             changes: self.clocks.changes(),
-            afters: self.afters.changes(),
+            afters: self.afters.as_ref()?.changes(),
             lefts: self.trail.lefts.len(),
         };
         self.trail.marks.push(mark).ok()
@@ -70,7 +70,7 @@ impl Search {
 
     fn undo(&mut self, mark: Mark) -> Option<()> {
         self.clocks.take_back(mark.changes)?;
-        self.afters.take_back(mark.afters)?;
+        self.afters.as_mut()?.take_back(mark.afters)?;
         self.rises.take_back(mark.rises)?;
         for _ in mark.lefts..self.trail.lefts.len() {
             let (read, left) = self.trail.lefts.pop()?;

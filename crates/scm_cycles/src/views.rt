@@ -191,7 +191,10 @@ impl Search {
         let writers = self.writers.of(view.value)?;
         for back in from..to {
             let end = to.checked_sub(back.checked_sub(from)?)?;
-            if self.unseen(*writers.get(end.checked_sub(1)?)?, view.read)?.is_none() {
+            if self
+                .unseen(*writers.get(end.checked_sub(1)?)?, view.read)?
+                .is_none()
+            {
                 return Some(end);
             }
         }
