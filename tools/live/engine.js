@@ -116,10 +116,10 @@ function scheduleOf([, count, ...found]) {
 }
 
 function orderOf(word, number) {
-  const [, from, sign, end, rule, by, hints] = word.match(/^(\d+\.\d+|-)([<~/])(\d+\.\d+):([a-z-]+)(?::(\d+\.\d+))?((?::\d+)*)$/);
+  const [, from, sign, end, rule, by, hints] = word.match(/^(\d+\.\d+|-)([<~/!])(\d+\.\d+):([a-z-]+)(?::(\d+\.\d+))?((?::\d+)*)$/);
   const isFirst = from === "-";
   const rests = hints.split(":").slice(1).map(Number);
-  return { number, start: isFirst ? end : from, end, sign: isFirst ? "-" : sign, rule, by, rests, isWrong: !isFirst && isUpTo(end, from) };
+  return { number, start: isFirst ? end : from, end, sign: isFirst ? `-${sign}` : sign, rule, by, rests, isWrong: !isFirst && sign !== "!" && isUpTo(end, from) };
 }
 
 // Whether both are of one process, and the one is the other or stands before it.

@@ -10,8 +10,10 @@ const RULES = {
   joined: "one order after the other, along processes between them",
   hidden: "what stands between them writes what is read",
   "after-source": "the read saw the second write, and the first one stands before that read",
+  assumed: "this is supposed, until a contradiction follows",
+  lemma: "not all that was supposed there is so, and all else of it is",
 };
-const SAID = { "<": ["", " before "], "~": ["", " is seen by "], "/": ["", " is hidden from "], "-": ["first contents are seen by ", ""] };
+const SAID = { "<": ["", " before "], "~": ["", " is seen by "], "/": ["", " is hidden from "], "!": ["", " isn't seen by "], "-~": ["first contents are seen by ", ""], "-!": ["first contents aren't seen by ", ""] };
 const NOTHING_LEFT = "there is nothing left that it can have read";
 const SIGNS = { consistent: "\u2713", inconsistent: "\u2717", undecided: "?" };
 
@@ -161,7 +163,7 @@ function number(orders, boxes) {
   }
 }
 
-const kindOf = ({ isWrong, rule }) => (isWrong ? "wrong" : ["joined", "hidden"].includes(rule) ? "joined" : "plain");
+const kindOf = ({ isWrong, rule, sign }) => (isWrong ? "wrong" : ["joined", "hidden"].includes(rule) || sign.endsWith("!") ? "joined" : "plain");
 
 function drawnOrder(order) {
   const [[a, b], ...others] = order.points;
@@ -231,7 +233,7 @@ const code = (words) => element("code", {}, escaped(words));
 
 function orderLine(order) {
   const [before, between] = SAID[order.sign];
-  const said = `${before}${order.sign === "-" ? "" : order.start}${between}${order.end}`;
+  const said = `${before}${order.sign.startsWith("-") ? "" : order.start}${between}${order.end}`;
   const head = order.isWrong ? `a contradiction: ${said}` : said;
   const rests = order.rests.length > 0 ? `, by order ${order.rests.join(", ")}` : "";
   const why = order.rule === "after-all" && order.start === order.end ? NOTHING_LEFT : RULES[order.rule];

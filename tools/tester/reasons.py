@@ -23,8 +23,8 @@ class Order:
 
     @property
     def is_derived(self):
-        """Whether it only joins others."""
-        return self.rule in ("joined", "hidden")
+        """Whether it only joins others, or says that something isn't seen."""
+        return self.rule in ("joined", "hidden") or "!" in self.head
 
     @property
     def named(self):
@@ -58,23 +58,31 @@ class Reasons(Derivation):
 
     def order(self, number, word):
         line = line_of(word)
-        if not line or not self.follows(line):
+        if not line or not self.takes(line):
             raise Stop(f"line {number} of the refutation doesn't follow by docs/LANGUAGE.md: an error of the monitor", 70)
         start = line.end if line.start is FIRST else line.start
-        is_contradiction = line.start is not FIRST and is_up_to(line.end, line.start)
         words = getattr(self, f"{line.rule.replace('-', '_')}_words")(line)
-        if is_contradiction and line.start != line.end:
+        if line.is_contradiction and line.start != line.end:
             words += f": but it stands behind {place(line.end)}"
-        elif is_contradiction and line.rule != "after-all":
+        elif line.is_contradiction and line.rule != "after-all":
             words += ": it would stand before itself"
-        self.earlier.append(line)
-        return Order(number, start, line.end, line.rule, word.split(":")[0], self.says(line), f"{words}.", list(line.hints), line.by, is_contradiction)
+        if line.is_contradiction and self.blocks[-1] is not None:
+            words += f". So what is supposed from order {self.blocks[-1]} on isn't all so"
+        rests = list(line.hints) if line.lemma is None else [line.lemma, *line.hints]
+        return Order(number, start, line.end, line.rule, word.split(":")[0], self.says(line), f"{words}.", rests, line.by, line.is_contradiction)
 
     def says(self, line):
-        if line.start is FIRST:
-            return f"{place(line.end)} sees first contents"
-        one, other = place(line.start), place(line.end)
-        return {"<": f"{one} before {other}", "~": f"{other} sees {one}", "/": f"{other} doesn't see {one}"}[line.sign]
+        one, other = "first contents" if line.start is FIRST else place(line.start), place(line.end)
+        return {"<": f"{one} before {other}", "~": f"{other} sees {one}", "/": f"{other} doesn't see {one}", "!": f"{other} doesn't see {one}"}[line.sign]
+
+    def assumed_words(self, line):
+        return f"Suppose that it is so: {self.says(line)}"
+
+    def lemma_words(self, line):
+        first = self.blocks[line.lemma]
+        assumed = [f"order {first + k}" for k in range(len(line.hints) + 1)]
+        others = f", and the rest of it is so, by {listed([f'order {number}' for number in line.hints])}" if line.hints else ""
+        return f"Not all is so that {listed(assumed)} suppose{'' if line.hints else 's'}, by order {line.lemma}{others}"
 
     def named(self, at):
         return f"{place(at)} ({self.recording.text(at)})"
@@ -155,7 +163,7 @@ class Reasons(Derivation):
         return "unknown"
 
     def ruled_out_words(self, hint, candidate, read):
-        if hint.sign == "~" and hint.end == read:
+        if hint.sign in "~!" and hint.end == read:
             return "not what is seen"
         return "later" if self.shows(hint, read, candidate) else "overwritten before"
 
@@ -166,6 +174,8 @@ class Reasons(Derivation):
             return f"{name} held {first} at first"
         for number in line.hints:
             hint = self.earlier[number]
+            if self.rules_out(hint, FIRST, read) and hint.sign == "!":
+                return f"what it held at first isn't what is seen, by order {number}"
             if self.rules_out(hint, FIRST, read):
                 return f"it held another value at first, by order {number}" if hint.start is FIRST else f"what it held at first is gone, since {place(hint.start)} writes it before, by order {number}"
         return f"{name} held {'something' if first is OPEN else first} at first"

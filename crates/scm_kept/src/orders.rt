@@ -54,6 +54,42 @@ const LISTS: &str = "
     0Wx1 0Ry0 1Wy1 / 1Rx0: 0.1<1.0:before-all 0.0<1.1:joined:0 1.1<1.1:after-all:1 => open
 ";
 
+/// Writes of 2 and 1 by two processes, each of which then reads what the other one wrote: only cases refute it.
+const CROSSED: &str = "0Wx2 0Wx2 0Rx1 1Wx1 1Wx1 1Rx2";
+
+/// Its refutation by two cases.
+const CASES: &str =
+    "0.1<1.1:assumed 0.1/1.2:hidden:1.1:0 1.2<1.2:after-all:1 1.1<0.1:lemma:2 1.1/0.2:hidden:0.1:3 0.2<0.2:after-all:4";
+
+/// Lists of lines for that trace.
+const CASE_LISTS: &str = "
+    two sources: 0.1~1.2:assumed 1.1<0.1:after-source:0 1.1/0.2:hidden:0.1:1 0.2<0.2:after-all:2 0.1!1.2:lemma:3 0.0~1.2:assumed 1.1<0.0:after-source:5 1.1/0.2:hidden:0.0:6 0.2<0.2:after-all:7 0.0!1.2:lemma:8 1.2<1.2:after-all:4:9 => refuted
+    the first assumption holds: 0.0<0.1:assumed 0.1<1.1:assumed 0.1/1.2:hidden:1.1:1 1.2<1.2:after-all:2 0.0<0.1:joined 1.1<0.1:lemma:3:4 1.1/0.2:hidden:0.1:5 0.2<0.2:after-all:6 => refuted
+    the second does: 0.1<1.1:assumed 0.0<0.1:assumed 0.1/1.2:hidden:1.1:0 1.2<1.2:after-all:2 0.0<0.1:joined 1.1<0.1:lemma:3:4 1.1/0.2:hidden:0.1:5 0.2<0.2:after-all:6 => refuted
+    an assumption holds by a shorter order: 0.0<0.2:assumed 0.1<1.1:assumed 0.1/1.2:hidden:1.1:1 1.2<1.2:after-all:2 0.1<0.2:joined 1.1<0.1:lemma:3:4 1.1/0.2:hidden:0.1:5 0.2<0.2:after-all:6 => refuted
+    a lemma in a later block: 0.0!1.2:assumed 0.1<1.1:assumed 0.1/1.2:hidden:1.1:1 1.2<1.2:after-all:2 0.1~1.2:assumed 1.1<0.1:lemma:3:4 1.1/0.2:hidden:0.1:5 0.2<0.2:after-all:6 0.1!1.2:lemma:7 0.0~1.2:source:8 1.1<0.0:after-source:9 1.1/0.2:hidden:0.0:10 0.2<0.2:after-all:11 => refuted
+    a block that isn't closed: 0.1<1.1:assumed 0.1/1.2:hidden:1.1:0 1.2<1.2:after-all:1 => open
+    a contradiction that is assumed: 0.0<0.0:assumed => open
+    a lemma of such a one: 0.0<0.0:assumed 0.0<0.0:lemma:0 => open
+    a hint from a closed block: 0.1<1.1:assumed 0.1/1.2:hidden:1.1:0 1.2<1.2:after-all:1 1.2<1.2:after-all:1 => open
+    one assumption too few: 0.0<0.1:assumed 0.1<1.1:assumed 0.1/1.2:hidden:1.1:1 1.2<1.2:after-all:2 1.1<0.1:lemma:3 1.1/0.2:hidden:0.1:4 0.2<0.2:after-all:5 => open
+    an assumption holds by a longer order: 0.0<0.1:assumed 0.1<1.1:assumed 0.1/1.2:hidden:1.1:1 1.2<1.2:after-all:2 0.1<0.2:joined 1.1<0.1:lemma:3:4 1.1/0.2:hidden:0.1:5 0.2<0.2:after-all:6 => open
+    an assumption in the midst: 0.1<1.1:assumed 0.1/1.2:hidden:1.1:0 0.0<0.1:assumed 1.2<1.2:after-all:1 1.1<0.1:lemma:3 1.1/0.2:hidden:0.1:4 0.2<0.2:after-all:5 => open
+    a lemma of a line that ends nothing: 0.1<1.1:assumed 0.1/1.2:hidden:1.1:0 1.2<1.2:after-all:1 1.1<0.1:lemma:1 1.1/0.2:hidden:0.1:3 0.2<0.2:after-all:4 => open
+    a lemma of a line that isn't there: 0.1<1.1:assumed 0.1/1.2:hidden:1.1:0 1.2<1.2:after-all:1 1.1<0.1:lemma:3 1.1/0.2:hidden:0.1:3 0.2<0.2:after-all:4 => open
+    a lemma of another order: 0.1<1.1:assumed 0.1/1.2:hidden:1.1:0 1.2<1.2:after-all:1 1.0<0.1:lemma:2 1.1/0.2:hidden:0.1:3 0.2<0.2:after-all:4 => open
+";
+
+/// What isn't seen, supposed and concluded.
+const UNSEEN_LISTS: &str = "
+    0Wx1 0Ry0 1Wy1 1Rx0: -~0.1:assumed 0.1<1.0:before-all 0.0<1.1:joined:1 1.1<1.1:after-all:2 -!0.1:lemma:3 0.1<0.1:after-all:4 => refuted
+    0Wx1 0Wy1 1Ry1 1Rx0: 0.1!1.0:assumed 1.0<1.0:after-all:0 0.1~1.0:lemma:1 0.0<1.1:joined:2 1.1<1.1:after-all:3 => refuted
+    0Ro1 1Ro2: -!0.0:assumed 0.0<0.0:after-all:0 -~0.0:lemma:1 1.0<1.0:after-all:2 => refuted
+    0Wx1 0Wy1 1Ry1 1Rx1: 0.1!1.0:source 1.0<1.0:after-all:0 => open
+    0Wx1 0Wy1 1Ry1 1Rx1: 0.0!1.0:assumed 1.0<1.0:after-all:0 0.0~1.0:lemma:1 => open
+    0Rx0: -!0.0:source 0.0<0.0:after-all:0 => open
+";
+
 /// Traces with a derivation of at most eight lines, and such with none.
 const FOUND: &str = "
     store buffering: 0Wx1 0Ry0 1Wy1 1Rx0 => found
@@ -95,11 +131,24 @@ fn fact_of(rt: &impl Abort, text: &str) -> Fact {
             read: place_of(rt, read),
         };
     }
+    if let Some((write, read)) = text.split_once('!') {
+        return unseen(rt, write, place_of(rt, read));
+    }
     let (write, read) = text.split_once('~').expect(rt, "a fact");
     let read = place_of(rt, read);
     match write {
         "-" => Fact::SeesFirst { read },
         _ => Fact::Sees {
+            write: place_of(rt, write),
+            read,
+        },
+    }
+}
+
+fn unseen(rt: &impl Abort, write: &str, read: Place) -> Fact {
+    match write {
+        "-" => Fact::UnseenFirst { read },
+        _ => Fact::Unseen {
             write: place_of(rt, write),
             read,
         },
@@ -113,6 +162,7 @@ fn rule_of(rt: &impl Abort, name: &str) -> Rule {
         "after-all" => Rule::AfterAll,
         "before-all" => Rule::BeforeAll,
         "after-source" => Rule::AfterSource,
+        "assumed" => Rule::Assumed,
         _ => Rule::Hidden {
             by: place_of(rt, name),
         },
@@ -121,10 +171,32 @@ fn rule_of(rt: &impl Abort, name: &str) -> Rule {
 
 /// The rule of a line's words behind its fact, where a place stands for what hides, and the hints.
 fn rule_in<'a>(rt: &impl Abort, words: &'a str) -> (Rule, &'a str) {
+    if let Some(numbers) = words.strip_prefix("lemma:") {
+        let (end, hints) = numbers.split_once(':').unwrap_or((numbers, ""));
+        let end = number(rt, end);
+        return (Rule::Lemma { end }, hints);
+    }
     let words = words.strip_prefix("hidden:").unwrap_or(words);
     match words.split_once(':') {
         Some((name, hints)) => (rule_of(rt, name), hints),
         None => (rule_of(rt, words), ""),
+    }
+}
+
+/// Whether a line that says this leaves its block open.
+fn goes_on(fact: Fact) -> bool {
+    match fact {
+        Fact::Before { from, to } => from.process != to.process || from.at < to.at,
+        _ => true,
+    }
+}
+
+/// The block of the next line, as a reader of the words finds it.
+fn block_behind(lines: &[Line], rule: Rule) -> Option<u32> {
+    let open = lines.last().filter(|line| goes_on(line.fact));
+    match open.and_then(|line| line.block) {
+        None if rule == Rule::Assumed => u32::try_from(lines.len()).ok(),
+        block => block,
     }
 }
 
@@ -136,6 +208,7 @@ fn add_line(rt: &impl Abort, derivation: &mut Derivation, text: &str) {
         derivation.hints.push(number(rt, hint)).expect(rt, "memory");
     }
     let count = derivation.hints.len().saturating_sub(first);
+    let block = block_behind(&derivation.lines, rule);
     derivation
         .lines
         .push(Line {
@@ -143,7 +216,7 @@ fn add_line(rt: &impl Abort, derivation: &mut Derivation, text: &str) {
             rule,
             first: u32::try_from(first).expect(rt, "a number"),
             count: u32::try_from(count).expect(rt, "a number"),
-            block: None,
+            block,
         })
         .expect(rt, "memory");
 }
@@ -172,6 +245,53 @@ fn judge(rt: &impl Abort, alloc: Global, row: &str) {
 fn derivations_are_judged(rt: HostRuntime) {
     for row in LISTS.trim().lines() {
         judge(&rt, rt.alloc(), row);
+    }
+}
+
+#[test]
+fn cases_are_judged(rt: HostRuntime) {
+    let alloc = rt.alloc();
+    judge(&rt, alloc, &crossed_by(&rt, alloc, CASES, "refuted"));
+    for row in CASE_LISTS.trim().lines() {
+        let (_, list, verdict) = parts_of(&rt, row);
+        judge(&rt, alloc, &crossed_by(&rt, alloc, list, verdict));
+    }
+    for row in UNSEEN_LISTS.trim().lines() {
+        judge(&rt, alloc, row);
+    }
+}
+
+/// A row that judges this list of lines for the crossed trace.
+fn crossed_by(rt: &impl Abort, alloc: Global, list: &str, verdict: &str) -> String {
+    format!(in alloc; "{CROSSED}: {list} => {verdict}").expect(rt, "memory")
+}
+
+/// Whether the two cases refute the crossed trace where one line is said to be of this block.
+fn is_refuted_with(rt: &impl Abort, alloc: Global, number: usize, block: Option<u32>) -> bool {
+    let sequences = sequences_in(rt, alloc, 4, CROSSED);
+    let mut derivation = derivation_of(rt, alloc, CASES);
+    let line = derivation.lines.get_mut(number).expect(rt, "a line");
+    line.block = block;
+    orders_refute(&INITIALS, &sequences, &sequences.lengths(), &derivation)
+}
+
+#[test]
+fn blocks_are_data(rt: HostRuntime) {
+    let rows = [
+        (0, Some(0), true),
+        (0, None, false),
+        (0, Some(1), false),
+        (1, None, false),
+        (1, Some(1), false),
+        (2, None, false),
+        (3, None, true),
+        (3, Some(0), false),
+        (3, Some(3), false),
+        (5, Some(u32::MAX), false),
+    ];
+    for (number, block, wanted) in rows {
+        let is_refuted = is_refuted_with(&rt, rt.alloc(), number, block);
+        assert!(rt; is_refuted == wanted, "{number} {block:?}");
     }
 }
 

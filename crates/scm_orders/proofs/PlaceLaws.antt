@@ -1,5 +1,5 @@
 -- What is known of the operation at a place from what it read or wrote.
-use Rattle.std.proofs.Common.{ℕ, ◌≡◌, ◌<◌, true, false, length, Option, None, Some, IsSome, option_and_then, refl, sym, ap, ap₂, ◌∙◌, subst, ⊎_elim}
+use Rattle.std.proofs.Common.{ℕ, ◌≡◌, ◌≢◌, ◌<◌, ◌⊎◌, true, false, length, Option, None, Some, IsSome, option_and_then, refl, sym, ap, ap₂, ◌∙◌, subst, ⊎_elim, inl, inr}
 use Rattle.std.proofs.lemmas.Bool.{cases_eq}
 use Rattle.scm_sequences.specs.declared.op.Op.{Op}
 use Rattle.scm_sequences.specs.Ops.{cell_of, read_of, written_to}
@@ -33,6 +33,28 @@ one_cell t place a b = go (operation_at t place) where
   go : (o : Option Op) → IsSome (option_and_then (λ op. read_of op a) o) → IsSome (option_and_then (λ op. read_of op b) o) → a ≡ b
   go None reads_a reads_b = absurd (none_is reads_a)
   go (Some op) reads_a reads_b = one_cell_of op a b reads_a reads_b
+
+pub same_place : (a b : Place) → (a ≡ b) ⊎ (a ≢ b)
+same_place a b = ⊎_elim
+    (λ process. ⊎_elim (λ at. inl (ap₂ (λ p k. place p k) process at)) (λ other. inr (λ same. other (ap (λ (x : Place). x.at) same))) (cases_eq a.at b.at))
+    (λ other. inr (λ same. other (ap (λ (x : Place). x.process) same)))
+    (cases_eq a.process b.process) where
+      place : ℕ → ℕ → Place
+      place p k = record { process = p; at = k }
+
+-- an operation reads a cell, or none
+pub reads_or_not : (t : Trace) (place : Place) → ((cell : ℕ) × (value : ℕ) × (read_at t place cell ≡ Some value)) ⊎ ((cell : ℕ) → IsSome (read_at t place cell) → ⊥)
+reads_or_not t place = go (operation_at t place) where
+  at : (op : Op) (o : Option ℕ) → read_of op (cell_of op) ≡ o → ((cell : ℕ) × (value : ℕ) × (read_of op cell ≡ Some value)) ⊎ ((cell : ℕ) → IsSome (read_of op cell) → ⊥)
+  at op None e = inr (λ cell reads. ⊎_elim
+      (λ same. none_is (subst IsSome (ap (read_of op) (sym same) ∙ e) reads))
+      (λ ne. none_is (subst IsSome (read_of-other op cell ne) reads))
+      (cases_eq (cell_of op) cell))
+  at op (Some value) e = inl (cell_of op, value, e)
+
+  go : (o : Option Op) → ((cell : ℕ) × (value : ℕ) × (option_and_then (λ op. read_of op cell) o ≡ Some value)) ⊎ ((cell : ℕ) → IsSome (option_and_then (λ op. read_of op cell) o) → ⊥)
+  go None = inr (λ cell reads. none_is reads)
+  go (Some op) = at op (read_of op (cell_of op)) refl
 
 -- and one value there
 pub one_reading : (t : Trace) (place : Place) (a b : Reading) → IsReading t place a → IsReading t place b → a ≡ b

@@ -1,7 +1,8 @@
 -- Each rule holds: in a schedule in which the facts of the hints are so, so is a fact that follows from them.
-use Rattle.std.proofs.Common.{ℕ, ◌≡◌, ◌≢◌, ◌<◌, ◌≤◌, ◌⊎◌, List, [], ◌∷◌, length, Option, None, Some, IsSome, IsSomeAnd, option_and_then, slice_get, slice_index, refl, sym, ap, ap₂, ◌∙◌, subst, ⊎_elim, inl, inr, arith}
+use Rattle.std.proofs.Common.{ℕ, zero, suc, ◌≡◌, ◌≢◌, ◌+◌, ◌-◌, ◌<◌, ◌≤◌, ◌⊎◌, List, [], ◌∷◌, length, drop, All, Option, None, Some, IsSome, IsSomeAnd, option_and_then, slice_get, slice_index, refl, sym, ap, ap₂, ◌∙◌, subst, ⊎_elim, inl, inr, arith}
 use Rattle.std.specs.Option.{option_or, option_map}
 use Rattle.std.proofs.lemmas.Bool.{cases_lt}
+use borrow.Author.Count.{below_more}
 use Rattle.scm_sequences.specs.declared.op.Op.{Op}
 use Rattle.scm_sequences.specs.Ops.{read_of, written_to}
 use Rattle.scm_sequences.specs.Sequences.{operations, lengths_of}
@@ -12,19 +13,20 @@ use Rattle.scm_sequences.specs.FrontLaws.{slice_index-counts_of}
 use Rattle.scm_orders.specs.declared.place.Place.{Place}
 use Rattle.scm_orders.specs.declared.cut_trace.Reading.{Reading}
 use Rattle.scm_orders.specs.declared.derivation.Fact.{Fact}
-use Rattle.scm_orders.specs.declared.derivation.Fact.TheVariants.{Before, Sees, SeesFirst, Hidden}
+use Rattle.scm_orders.specs.declared.derivation.Fact.TheVariants.{Before, Sees, SeesFirst, Hidden, Unseen, UnseenFirst}
 use Rattle.scm_orders.specs.declared.derivation.Line.{Line}
 use Rattle.scm_orders.specs.declared.derivation.Rule.{Rule}
-use Rattle.scm_orders.specs.declared.derivation.Rule.TheVariants.{Joined, Hidden as HiddenBy, Source, AfterAll, BeforeAll, AfterSource}
+use Rattle.scm_orders.specs.declared.derivation.Rule.TheVariants.{Joined, Hidden as HiddenBy, Source, AfterAll, BeforeAll, AfterSource, Assumed, Lemma}
 use Rattle.scm_orders.specs.declared.candidates.Left.{Left}
 use Rattle.scm_orders.specs.declared.candidates.Left.TheVariants.{Write, First, After, Before as Until}
 use Rattle.scm_orders.specs.Places.{IsUpTo, IsEarlier, operation_at, read_at, written_at, ReadsOther, WritesWhatIsRead}
-use Rattle.scm_orders.specs.Facts.{order_of, Shows, SomeHint, IsBefore, Leads, IsJoined}
+use Rattle.scm_orders.specs.Facts.{order_of, Shows, IsContradiction, fact_at, SomeHint, IsBefore, Leads, IsJoined}
 use Rattle.scm_orders.specs.Moments.{moment, IsLastBefore, HasNoneBefore, HasWriteBetween, ReadsCell, Says}
-use Rattle.scm_orders.specs.Candidates.{Overwrites, Denies, RulesOut, SaysOtherFirst, RulesOutFirst, HasFirst, Has, HasBy, LeavesOnly, Leaves}
-use Rattle.scm_orders.specs.Following.{IsHidden, IsBeforeAll, HasReader, IsOrdered, IsHiddenBy, FollowsBy, IsOf, Follows}
-use Rattle.scm_orders.specs.Refuting.{IsContradiction}
-use Rattle.scm_orders.proofs.PlaceLaws.{none_is, is_some_at, some_first, one_cell}
+use Rattle.scm_orders.specs.Candidates.{Overwrites, Denies, RulesOut, DeniesFirst, RulesOutFirst, HasFirst, Has, HasBy, LeavesOnly, Leaves}
+use Rattle.scm_orders.specs.Following.{IsHidden, IsBeforeAll, HasReader, IsOrdered, IsHiddenBy, IsDrawn, IsOf}
+use Rattle.scm_orders.specs.Lemmas.{Negates, Implies, IsMet, Assumes, LeavesOne, hints_near}
+use Rattle.scm_orders.proofs.PlaceLaws.{none_is, is_some_at, some_first, one_cell, same_place, reads_or_not}
+use Rattle.scm_orders.proofs.HintLaws.{any_taken, any_dropped}
 use Rattle.scm_orders.proofs.MomentLaws.{place_of, IsIn, moment-injective, moment-rises}
 use Rattle.scm_orders.proofs.SeeingLaws.{SeesWrite, SeesNone, sees, first_value}
 
@@ -32,6 +34,11 @@ use Rattle.scm_orders.proofs.SeeingLaws.{SeesWrite, SeesNone, sees, first_value}
 pub record Holds (t : Trace) (s : List ℕ) (fact : Fact) : Type 0 where
   pub of : IsOf t fact
   pub says : Says t s fact
+
+-- each is so, or the other thing
+each_or : (P : ℕ → Type 0) (Q : Type 0) (n : ℕ) → ((k : ℕ) → k < n → P k ⊎ Q) → ((k : ℕ) → k < n → P k) ⊎ Q
+each_or P Q zero each = inl (λ k below. absurd (omega arith))
+each_or P Q (suc n) each = ⊎_elim (λ last. ⊎_elim (λ rest. inl (λ k below. below_more P n rest last k (omega (arith, below)))) inr (each_or P Q n (λ k below. each k (omega (arith, below))))) inr (each n (omega arith))
 
 -- ---- in a schedule
 
@@ -123,6 +130,8 @@ module _ (t : Trace) (s : List ℕ) (schedule : IsSchedule t s) where
   by_order (Sees w r) P Q holds use' is = use' w r (is_in w holds.of.one) (is_in r holds.of.other) holds.says.2.before is
   by_order (SeesFirst r) P Q holds use' is = absurd is
   by_order (Hidden w r) P Q holds use' is = use' w r (is_in w holds.of.one) (is_in r holds.of.other) (omega (arith, holds.says.2.after, holds.says.2.before)) is
+  by_order (Unseen w r) P Q holds use' is = absurd is
+  by_order (UnseenFirst r) P Q holds use' is = absurd is
 
   shows : (fact : Fact) (x y : Place) → IsIn s y → Holds t s fact → Shows fact x y → moment s x < moment s y
   shows fact x y in_y holds = by_order fact (λ order. IsUpTo x order.0 × IsUpTo order.1 y) (moment s x < moment s y) holds
@@ -163,6 +172,9 @@ module _ (t : Trace) (s : List ℕ) (schedule : IsSchedule t s) where
       let up : moment s w ≤ moment s w' = up_to w w' (is_in w' holds.of.one) out.1 in
       let last : moment s between.write ≤ moment s w = seen.last between.write between.writes between.before in
       omega (arith, up, last, between.after)
+  denied (Unseen w' r) read w reads holds out seen =
+      holds.says (subst (λ x. ReadsCell t x (λ cell. IsLastBefore t s cell w' x)) (sym out.0) (read.cell, reads, subst (λ x. IsLastBefore t s read.cell x read.place) (sym out.1) seen))
+  denied (UnseenFirst r) read w reads holds out seen = absurd out
 
   ruled_out : (fact : Fact) (read : Reading) (w : Place) → IsSome (read_at t read.place read.cell) → Holds t s fact → RulesOut t fact read w → IsLastBefore t s read.cell w read.place → ⊥
   ruled_out fact read w reads holds out seen = ⊎_elim
@@ -170,50 +182,104 @@ module _ (t : Trace) (s : List ℕ) (schedule : IsSchedule t s) where
       (⊎_elim (λ over. overwritten fact read w (reads_in read.place read.cell reads) holds over seen) (λ not'. denied fact read w reads holds not' seen))
       out
 
-  other_said : (fact : Fact) (read : Reading) → read_at t read.place read.cell ≡ Some read.value → Holds t s fact → SaysOtherFirst t fact read → HasNoneBefore t s read.cell read.place → ⊥
-  other_said (Before a b) read reads holds out none = absurd out
-  other_said (Sees w r) read reads holds out none = absurd out
-  other_said (SeesFirst r) read reads holds out none =
+  denied_first : (fact : Fact) (read : Reading) → read_at t read.place read.cell ≡ Some read.value → Holds t s fact → DeniesFirst t fact read → HasNoneBefore t s read.cell read.place → ⊥
+  denied_first (Before a b) read reads holds out none = absurd out
+  denied_first (Sees w r) read reads holds out none = absurd out
+  denied_first (SeesFirst r) read reads holds out none =
       other_first read.cell read.value r read.place out reads (of_cell (λ cell. HasNoneBefore t s cell r) r read.cell (reads_some read.cell read.value r out) holds.says) none
-  other_said (Hidden w r) read reads holds out none = absurd out
+  denied_first (Hidden w r) read reads holds out none = absurd out
+  denied_first (Unseen w r) read reads holds out none = absurd out
+  denied_first (UnseenFirst r) read reads holds out none =
+      holds.says (subst (λ x. ReadsCell t x (λ cell. HasNoneBefore t s cell x)) (sym out) (read.cell, is_some_at (read_at t read.place read.cell) read.value reads, none))
 
   first_ruled_out : (fact : Fact) (read : Reading) → read_at t read.place read.cell ≡ Some read.value → Holds t s fact → RulesOutFirst t fact read → HasNoneBefore t s read.cell read.place → ⊥
   first_ruled_out fact read reads holds out none = ⊎_elim
       (by_order fact (λ order. IsSome (written_at t order.0 read.cell) × IsUpTo order.1 read.place) ⊥ holds
       (λ a b in_a in_b less both. omega (arith, none.none a both.0, less, up_to b read.place (reads_in read.place read.cell (is_some_at (read_at t read.place read.cell) read.value reads)) both.1)))
-      (λ other. other_said fact read reads holds other none)
+      (λ denied'. denied_first fact read reads holds denied' none)
       out
 
   -- no operation stands before itself
   pub contradicts : (fact : Fact) → Holds t s fact → IsContradiction fact → ⊥
   contradicts fact holds = by_order fact (λ order. IsUpTo order.1 order.0) ⊥ holds (λ a b in_a in_b less back. omega (arith, less, up_to b a in_a back))
 
+  -- ---- one fact or its contrary
+
+  sees_or_not : (w r : Place) → Says t s (Sees w r) ⊎ Says t s (Unseen w r)
+  sees_or_not w r = ⊎_elim reads (λ none. inr (λ seen. none seen.0 seen.1)) (reads_or_not t r) where
+    by_source : (cell : ℕ) → IsSome (read_at t r cell) → ((w' : Place) → IsLastBefore t s cell w' r → Says t s (Sees w r) ⊎ Says t s (Unseen w r))
+    by_source cell some w' last = ⊎_elim
+        (λ same. inl (cell, some, subst (λ x. IsLastBefore t s cell x r) same last))
+        (λ other. inr (λ seen.
+        let last' : IsLastBefore t s cell w r = of_cell (λ c. IsLastBefore t s c w r) r cell some seen in
+        let one : moment s w' ≤ moment s w = last'.last w' last.writes last.before in
+        let two : moment s w ≤ moment s w' = last.last w last'.writes last'.before in
+        other (moment-injective s w' w (writes_in w' cell last.writes) (writes_in w cell last'.writes) (omega arith))))
+        (same_place w' w)
+
+    reads : (cell : ℕ) × (value : ℕ) × (read_at t r cell ≡ Some value) → Says t s (Sees w r) ⊎ Says t s (Unseen w r)
+    reads is =
+        let some : IsSome (read_at t r is.0) = is_some_at (read_at t r is.0) is.1 is.2 in
+        ⊎_elim (λ found. by_source is.0 some found.0 found.2)
+        (λ none. inr (λ seen. let last : IsLastBefore t s is.0 w r = of_cell (λ c. IsLastBefore t s c w r) r is.0 some seen in omega (arith, none.none w last.writes, last.before)))
+        (seen_or_first is.0 is.1 r is.2)
+
+  first_or_not : (r : Place) → Says t s (SeesFirst r) ⊎ Says t s (UnseenFirst r)
+  first_or_not r = ⊎_elim reads (λ none. inr (λ seen. none seen.0 seen.1)) (reads_or_not t r) where
+    reads : (cell : ℕ) × (value : ℕ) × (read_at t r cell ≡ Some value) → Says t s (SeesFirst r) ⊎ Says t s (UnseenFirst r)
+    reads is =
+        let some : IsSome (read_at t r is.0) = is_some_at (read_at t r is.0) is.1 is.2 in
+        ⊎_elim (λ found. inr (λ seen. let none : HasNoneBefore t s is.0 r = of_cell (λ c. HasNoneBefore t s c r) r is.0 some seen in
+        let last : IsLastBefore t s is.0 found.0 r = found.2 in omega (arith, none.none found.0 last.writes, last.before)))
+        (λ none. inl (is.0, some, none))
+        (seen_or_first is.0 is.1 r is.2)
+
+  -- a fact is so, or its contrary
+  either : (one other : Fact) → IsOf t one → Negates one other → Says t s one ⊎ Says t s other
+  either (Before a b) other of is = ⊎_elim inl
+      (λ past. inr (subst (Says t s) (sym is.1) (strictly b a (is_in b of.other) (is_in a of.one) (λ same. is.0 (sym same)) past)))
+      (cases_lt (moment s a) (moment s b))
+  either (Sees w r) other of is = subst (λ f. Says t s (Sees w r) ⊎ Says t s f) (sym is) (sees_or_not w r)
+  either (SeesFirst r) other of is = subst (λ f. Says t s (SeesFirst r) ⊎ Says t s f) (sym is) (first_or_not r)
+  either (Hidden w r) other of is = absurd is
+  either (Unseen w r) other of is = subst (λ f. Says t s (Unseen w r) ⊎ Says t s f) (sym is) (⊎_elim inr inl (sees_or_not w r))
+  either (UnseenFirst r) other of is = subst (λ f. Says t s (UnseenFirst r) ⊎ Says t s f) (sym is) (⊎_elim inr inl (first_or_not r))
+
   -- ---- from hints
 
-  module _ (earlier : List Line) (hints : List ℕ) (known : (k : ℕ) (line : Line) → slice_get earlier k ≡ Some line → Holds t s line.fact) where
+  -- what lines of these numbers say is so
+  abbrev pub AreKnown : List Line → List ℕ → Type 0
+  AreKnown earlier numbers = All (λ number. (line : Line) → slice_get earlier number ≡ Some line → Holds t s line.fact) numbers
+
+  module _ (earlier : List Line) (hints : List ℕ) (known : AreKnown earlier hints) where
     by_hint : (P : Fact → Type 0) (Q : Type 0) → ((fact : Fact) → Holds t s fact → P fact → Q) → SomeHint earlier hints P → Q
     by_hint P Q use' some = go (slice_get earlier some.1) refl some.4 where
+      holds : (line : Line) → slice_get earlier some.1 ≡ Some line → Holds t s line.fact
+      holds = subst (λ number. (line : Line) → slice_get earlier number ≡ Some line → Holds t s line.fact) some.3 (known some.0 some.1 some.2)
+
       go : (o : Option Line) → slice_get earlier some.1 ≡ o → IsSomeAnd (option_map (λ line. line.fact) o) P → Q
       go None e is = absurd is
-      go (Some line) e is = use' line.fact (known some.1 line e) is
+      go (Some line) e is = use' line.fact (holds line e) is
 
     before : (x y : Place) → IsIn s y → IsBefore earlier hints x y → moment s x < moment s y
     before x y in_y = ⊎_elim (rises x y in_y) (by_hint (λ fact. Shows fact x y) (moment s x < moment s y) (λ fact holds is. shows fact x y in_y holds is))
 
-    led : (hint : ℕ) (rest : List ℕ) (x y : Place) → IsIn s y → ((z : Place) → Leads earlier rest z y → moment s z ≤ moment s y) → Leads earlier (hint ∷ rest) x y → moment s x < moment s y
-    led hint rest x y in_y then' is = go (slice_get earlier hint) refl is where
+    led : (hint : ℕ) (rest : List ℕ) (x y : Place) → ((line : Line) → slice_get earlier hint ≡ Some line → Holds t s line.fact) → IsIn s y
+        → ((z : Place) → Leads earlier rest z y → moment s z ≤ moment s y) → Leads earlier (hint ∷ rest) x y → moment s x < moment s y
+    led hint rest x y holds in_y then' is = go (slice_get earlier hint) refl is where
       go : (o : Option Line) → slice_get earlier hint ≡ o → IsSomeAnd (option_and_then order_of (option_map (λ line. line.fact) o)) (λ order. IsUpTo x order.0 × Leads earlier rest order.1 y) → moment s x < moment s y
       go None e is = absurd is
-      go (Some line) e is = by_order line.fact (λ order. IsUpTo x order.0 × Leads earlier rest order.1 y) (moment s x < moment s y) (known hint line e)
+      go (Some line) e is = by_order line.fact (λ order. IsUpTo x order.0 × Leads earlier rest order.1 y) (moment s x < moment s y) (holds line e)
           (λ a b in_a in_b less both. omega (arith, up_to x a in_a both.0, less, then' b both.1)) is
 
-    leads : (rest : List ℕ) (x y : Place) → IsIn s y → Leads earlier rest x y → moment s x ≤ moment s y
-    leads [] x y in_y is = up_to x y in_y is
-    leads (hint ∷ rest) x y in_y is = let less : moment s x < moment s y = led hint rest x y in_y (λ z. leads rest z y in_y) is in omega arith
+    leads : (rest : List ℕ) (x y : Place) → AreKnown earlier rest → IsIn s y → Leads earlier rest x y → moment s x ≤ moment s y
+    leads [] x y holds in_y is = up_to x y in_y is
+    leads (hint ∷ rest) x y holds in_y is =
+        let less : moment s x < moment s y = led hint rest x y (holds 0 hint (omega arith)) in_y (λ z. leads rest z y (λ k d inside. holds (suc k) d (omega (arith, inside))) in_y) is in omega arith
 
-    joined : (numbers : List ℕ) (x y : Place) → IsIn s y → IsJoined earlier numbers x y → moment s x < moment s y
-    joined [] x y in_y is = rises x y in_y is
-    joined (hint ∷ rest) x y in_y is = led hint rest x y in_y (λ z. leads rest z y in_y) is
+    joined : (numbers : List ℕ) (x y : Place) → AreKnown earlier numbers → IsIn s y → IsJoined earlier numbers x y → moment s x < moment s y
+    joined [] x y holds in_y is = rises x y in_y is
+    joined (hint ∷ rest) x y holds in_y is = led hint rest x y (holds 0 hint (omega arith)) in_y (λ z. leads rest z y (λ k d inside. holds (suc k) d (omega (arith, inside))) in_y) is
 
     -- ---- what is left for a read to see
 
@@ -291,6 +357,8 @@ module _ (t : Trace) (s : List ℕ) (schedule : IsSchedule t s) where
         (strictly write seen (writes_in write is.1.writes.cell is.1.writes.writes) (writes_in seen is.1.writes.cell last.writes) (λ same. other (same ∙ is.0)) (last.last write is.1.writes.writes sooner))
     has_reader write source (SeesFirst read) other holds is = absurd is
     has_reader write source (Hidden hidden read) other holds is = absurd is
+    has_reader write source (Unseen unseen read) other holds is = absurd is
+    has_reader write source (UnseenFirst read) other holds is = absurd is
 
     hidden_rule : (write read by : Place) → IsHidden t earlier hints write read by → Says t s (Hidden write read)
     hidden_rule write read by is = (
@@ -305,11 +373,13 @@ module _ (t : Trace) (s : List ℕ) (schedule : IsSchedule t s) where
     )
 
     ordered : (rule : Rule) (a b : Place) → IsSome (operation_at t b) → IsOrdered t earlier hints a b rule → moment s a < moment s b
-    ordered Joined a b there is = joined hints a b (is_in b there) is
+    ordered Joined a b there is = joined hints a b known (is_in b there) is
     ordered (HiddenBy by) a b there is = absurd is
     ordered Source a b there is = absurd is
     ordered AfterAll a b there is = after_rule a b is
     ordered BeforeAll a b there is = before_rule a b is
+    ordered Assumed a b there is = absurd is
+    ordered (Lemma end) a b there is = absurd is
     ordered AfterSource a b there is = by_hint (HasReader t earlier hints a b) (moment s a < moment s b) (λ fact holds reader. has_reader a b fact is.other holds reader) is.reader
 
     hidden_by : (rule : Rule) (write read : Place) → IsHiddenBy t earlier hints write read rule → Says t s (Hidden write read)
@@ -319,12 +389,51 @@ module _ (t : Trace) (s : List ℕ) (schedule : IsSchedule t s) where
     hidden_by AfterAll write read is = absurd is
     hidden_by BeforeAll write read is = absurd is
     hidden_by AfterSource write read is = absurd is
+    hidden_by Assumed write read is = absurd is
+    hidden_by (Lemma end) write read is = absurd is
 
-    by_rule : (fact : Fact) (rule : Rule) → IsOf t fact → FollowsBy t earlier hints fact rule → Says t s fact
-    by_rule (Before a b) rule of is = ordered rule a b of.other is
-    by_rule (Sees w r) rule of is = source_rule w r is.1
-    by_rule (SeesFirst r) rule of is = first_rule r is.1
-    by_rule (Hidden w r) rule of is = hidden_by rule w r is
+    pub drawn : (fact : Fact) (rule : Rule) → IsOf t fact → IsDrawn t earlier hints fact rule → Says t s fact
+    drawn (Before a b) rule of is = ordered rule a b of.other is
+    drawn (Sees w r) rule of is = source_rule w r is.1
+    drawn (SeesFirst r) rule of is = first_rule r is.1
+    drawn (Hidden w r) rule of is = hidden_by rule w r is
+    drawn (Unseen w r) rule of is = absurd is
+    drawn (UnseenFirst r) rule of is = absurd is
 
-    pub follows_holds : (line : Line) → Follows t earlier hints line → Holds t s line.fact
-    follows_holds line follows = record { of = follows.operations; says = by_rule line.fact line.rule follows.operations follows.rule }
+    -- ---- lemmas
+
+    implied : (assumed : Fact) → IsOf t assumed → (one : Fact) → Holds t s one → Implies t one assumed → Says t s assumed
+    implied (Before a b) of one holds is = shows one a b (is_in b of.other) holds is
+    implied (Sees w r) of one holds is = subst (Says t s) is holds.says
+    implied (SeesFirst r) of one holds is = subst (Says t s) is holds.says
+    implied (Hidden w r) of one holds is = subst (Says t s) is holds.says
+    implied (Unseen w r) of one holds is = λ seen. unseen is.0 is.1.reads is.2 (subst (λ x. ReadsCell t x (λ cell. IsLastBefore t s cell w x)) (sym is.1.at) seen) where
+      unseen : (by : Reading) → read_at t by.place by.cell ≡ Some by.value → RulesOut t one by w → ReadsCell t by.place (λ cell. IsLastBefore t s cell w by.place) → ⊥
+      unseen by reads out seen =
+          let some : IsSome (read_at t by.place by.cell) = is_some_at (read_at t by.place by.cell) by.value reads in
+          ruled_out one by w some holds out (of_cell (λ cell. IsLastBefore t s cell w by.place) by.place by.cell some seen)
+    implied (UnseenFirst r) of one holds is = λ seen. unseen is.0 is.1.reads is.2 (subst (λ x. ReadsCell t x (λ cell. HasNoneBefore t s cell x)) (sym is.1.at) seen) where
+      unseen : (by : Reading) → read_at t by.place by.cell ≡ Some by.value → RulesOutFirst t one by → ReadsCell t by.place (λ cell. HasNoneBefore t s cell by.place) → ⊥
+      unseen by reads out seen =
+          let some : IsSome (read_at t by.place by.cell) = is_some_at (read_at t by.place by.cell) by.value reads in
+          first_ruled_out one by reads holds out (of_cell (λ cell. HasNoneBefore t s cell by.place) by.place by.cell some seen)
+
+    -- an assumption that is met holds, or the fact does
+    met : (fact assumed : Fact) (k : ℕ) → IsOf t assumed → IsMet t earlier (hints_near hints k) fact assumed → Says t s assumed ⊎ Says t s fact
+    met fact assumed k of is = ⊎_elim (λ contrary. either assumed fact of contrary)
+        (λ some. inl (by_hint (λ one. Implies t one assumed) (Says t s assumed) (λ one holds. implied assumed of one holds)
+        (any_dropped (λ hint. IsSomeAnd (fact_at earlier hint) (λ one. Implies t one assumed)) (k - 1) hints
+        (any_taken (λ hint. IsSomeAnd (fact_at earlier hint) (λ one. Implies t one assumed)) (k + 1 - (k - 1)) (drop (k - 1) hints) some))))
+        is
+
+    -- where not all assumptions hold, the fact does
+    pub lemma_rule : (fact : Fact) (block : ℕ) (lines : List Line) → ((k : ℕ) (line : Line) → slice_get lines k ≡ Some line → IsOf t line.fact)
+        → (((k : ℕ) → k < length hints + 1 → IsSomeAnd (slice_get lines k) (λ line. Assumes block line × Says t s line.fact)) → ⊥)
+        → LeavesOne t earlier hints fact block lines → Says t s fact
+    lemma_rule fact block lines of not_all is = ⊎_elim (λ all. absurd (not_all all)) (λ says. says) (each_or _ (Says t s fact) (length hints + 1) one) where
+      one : (k : ℕ) → k < length hints + 1 → IsSomeAnd (slice_get lines k) (λ line. Assumes block line × Says t s line.fact) ⊎ Says t s fact
+      one k inside = go (slice_get lines k) refl (is.each k inside) where
+        go : (o : Option Line) → slice_get lines k ≡ o → IsSomeAnd o (λ line. Assumes block line × IsMet t earlier (hints_near hints k) fact line.fact)
+            → IsSomeAnd o (λ line. Assumes block line × Says t s line.fact) ⊎ Says t s fact
+        go None e both = absurd both
+        go (Some line) e both = ⊎_elim (λ says. inl (both.0, says)) inr (met fact line.fact k (of k line e) both.1)

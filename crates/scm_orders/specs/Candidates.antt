@@ -48,6 +48,13 @@ DeniesFirst t (UnseenFirst by) read = by ≡ read.place
 abbrev pub RulesOutFirst : Trace → Fact → Reading → Type 0
 RulesOutFirst t fact read = PutsWriteBefore t fact read ⊎ DeniesFirst t fact read
 
+-- there is a read at the place, which by the fact doesn't see the write, or first contents
+abbrev pub IsRuledOut : Trace → Fact → Place → Place → Type 0
+IsRuledOut t fact place write = (read : Reading) × IsReading t place read × RulesOut t fact read write
+
+abbrev pub IsRuledOutFirst : Trace → Fact → Place → Type 0
+IsRuledOutFirst t fact place = (read : Reading) × IsReading t place read × RulesOutFirst t fact read
+
 -- ---- what is left
 
 -- what is left has first contents

@@ -20,6 +20,10 @@ order_of (UnseenFirst read) = None
 abbrev pub Shows : Fact → Place → Place → Type 0
 Shows fact from to = IsSomeAnd (order_of fact) (λ order. IsUpTo from order.0 × IsUpTo order.1 to)
 
+-- the fact puts an operation before itself, by the order of processes
+abbrev pub IsContradiction : Fact → Type 0
+IsContradiction fact = IsSomeAnd (order_of fact) (λ order. IsUpTo order.1 order.0)
+
 -- what the earlier line of this number says
 abbrev pub fact_at : List Line → ℕ → Option Fact
 fact_at earlier number = option_map (λ line. line.fact) (slice_get earlier number)

@@ -1,5 +1,5 @@
 -- What follows from a trace and from the facts of hints: a case for each rule.
-use Rattle.std.specs.Prelude.{ℕ, ◌≡◌, ◌≢◌, ◌<◌, ◌≤◌, List, length, All, IsSome, ⊤}
+use Rattle.std.specs.Prelude.{ℕ, ◌≡◌, ◌≢◌, ◌≤◌, List, All, Option, IsSome, IsSomeAnd, slice_get, ⊤}
 use Rattle.scm_sequences.specs.Traces.{Trace}
 use Rattle.scm_orders.specs.declared.place.Place.{Place}
 use Rattle.scm_orders.specs.declared.derivation.Fact.{Fact}
@@ -12,6 +12,8 @@ use Rattle.scm_orders.specs.declared.candidates.Left.TheVariants.{Write, First, 
 use Rattle.scm_orders.specs.Places.{operation_at, WritesWhatIsRead}
 use Rattle.scm_orders.specs.Facts.{SomeHint, IsBefore, IsJoined}
 use Rattle.scm_orders.specs.Candidates.{Leaves}
+use Rattle.scm_orders.specs.Blocks.{IsPlaced, IsVisible}
+use Rattle.scm_orders.specs.Lemmas.{IsLemma}
 
 -- ---- the rules
 
@@ -72,19 +74,27 @@ IsHiddenBy t earlier hints write read AfterSource = ⊥
 IsHiddenBy t earlier hints write read Assumed = ⊥
 IsHiddenBy t earlier hints write read (Lemma end) = ⊥
 
+-- the fact follows by a rule that draws it from the hints alone
+abbrev pub IsDrawn : Trace → List Line → List ℕ → Fact → Rule → Type 0
+IsDrawn t earlier hints (Before from to) rule = IsOrdered t earlier hints from to rule
+IsDrawn t earlier hints (Sees write read) rule = IsSource rule × Leaves t earlier hints read (Write write)
+IsDrawn t earlier hints (SeesFirst read) rule = IsSource rule × Leaves t earlier hints read First
+IsDrawn t earlier hints (Hidden write read) rule = IsHiddenBy t earlier hints write read rule
+IsDrawn t earlier hints (Unseen write read) rule = ⊥
+IsDrawn t earlier hints (UnseenFirst read) rule = ⊥
+
+-- any fact may be assumed
 abbrev pub FollowsBy : Trace → List Line → List ℕ → Fact → Rule → Type 0
-FollowsBy t earlier hints (Before from to) rule = IsOrdered t earlier hints from to rule
-FollowsBy t earlier hints (Sees write read) rule = IsSource rule × Leaves t earlier hints read (Write write)
-FollowsBy t earlier hints (SeesFirst read) rule = IsSource rule × Leaves t earlier hints read First
-FollowsBy t earlier hints (Hidden write read) rule = IsHiddenBy t earlier hints write read rule
-FollowsBy t earlier hints (Unseen write read) rule = ⊥
-FollowsBy t earlier hints (UnseenFirst read) rule = ⊥
+FollowsBy t earlier hints fact Assumed = ⊤
+FollowsBy t earlier hints fact (Lemma end) = IsLemma t earlier hints fact end
+FollowsBy t earlier hints fact rule = IsDrawn t earlier hints fact rule
 
 -- ---- lines
 
--- a rule but 'joined' allows this many hints at most
+-- a rule but 'joined' and 'lemma' allows this many hints at most
 abbrev pub HasFewHints : Rule → ℕ → Type 0
 HasFewHints Joined count = ⊤
+HasFewHints (Lemma end) count = ⊤
 HasFewHints _ count = count ≤ MOST_HINTS
 
 pub record AreOperations (t : Trace) (a b : Place) : Type 0 where
@@ -100,9 +110,14 @@ IsOf t (Hidden write read) = AreOperations t write read
 IsOf t (Unseen write read) = AreOperations t write read
 IsOf t (UnseenFirst read) = IsSome (operation_at t read)
 
+-- the hint is the number of a line that can be named in this block
+abbrev pub IsNamed : List Line → Option ℕ → ℕ → Type 0
+IsNamed earlier block hint = IsSomeAnd (slice_get earlier hint) (λ line. IsVisible line.block block)
+
 -- the line follows from the trace and the earlier lines, with these hints
 pub record Follows (t : Trace) (earlier : List Line) (hints : List ℕ) (line : Line) : Type 0 where
-  pub numbers : All (λ hint. hint < length earlier) hints
+  pub placed : IsPlaced earlier line
+  pub named : All (IsNamed earlier line.block) hints
   pub few : HasFewHints line.rule line.count
   pub operations : IsOf t line.fact
   pub rule : FollowsBy t earlier hints line.fact line.rule

@@ -2,6 +2,8 @@ pub mod Places
 pub mod Facts
 pub mod Moments
 pub mod Candidates
+pub mod Blocks
+pub mod Lemmas
 pub mod Following
 pub mod Refuting
 pub use Rattle.scm_sequences.specs.Traces

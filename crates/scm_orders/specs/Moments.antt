@@ -1,13 +1,15 @@
--- When an operation stands in a schedule, and what a fact says of a schedule.
+-- When an operation stands in a schedule, and what facts and lines say of a schedule.
 --
 -- Schedules are written newest first, like all fronts.
-use Rattle.std.specs.Prelude.{ℕ, ◌<◌, ◌≤◌, List, [], ◌∷◌, length, nat_lt, if◌then◌else◌, IsSome}
+use Rattle.std.specs.Prelude.{ℕ, ◌<◌, ◌≤◌, ◌≡◌, List, [], ◌∷◌, length, nat_lt, if◌then◌else◌, Option, Some, IsSome, slice_get}
 use Rattle.scm_sequences.specs.Traces.{Trace}
 use Rattle.scm_sequences.specs.Fronts.{count_in}
 use Rattle.scm_orders.specs.declared.place.Place.{Place}
 use Rattle.scm_orders.specs.declared.derivation.Fact.{Fact}
 use Rattle.scm_orders.specs.declared.derivation.Fact.TheVariants.{Before, Sees, SeesFirst, Hidden, Unseen, UnseenFirst}
+use Rattle.scm_orders.specs.declared.derivation.Line.{Line}
 use Rattle.scm_orders.specs.Places.{read_at, written_at}
+use Rattle.scm_orders.specs.Blocks.{IsAssumed}
 
 -- how many places of the schedule stand before the operation at this place
 unfoldable pub moment : List ℕ → Place → ℕ
@@ -43,3 +45,7 @@ Says t schedule (SeesFirst read) = ReadsCell t read (λ cell. HasNoneBefore t sc
 Says t schedule (Hidden write read) = ReadsCell t read (λ cell. HasWriteBetween t schedule cell write read)
 Says t schedule (Unseen write read) = ReadsCell t read (λ cell. IsLastBefore t schedule cell write read) → ⊥
 Says t schedule (UnseenFirst read) = ReadsCell t read (λ cell. HasNoneBefore t schedule cell read) → ⊥
+
+-- all assumptions of this block hold; outside of blocks there are none
+pub record AssumptionsHold (t : Trace) (schedule : List ℕ) (lines : List Line) (block : Option ℕ) : Type 0 where
+  pub each : (k : ℕ) (line : Line) → slice_get lines k ≡ Some line → IsAssumed line.rule → line.block ≡ block → Says t schedule line.fact

@@ -3,7 +3,7 @@ ghost use Rattle.std.specs.Prelude.{ℕ, ◌≢◌, ◌<◌, ◌⊎◌, ◌↔�
 ghost use Rattle.scm_sequences.specs.Traces.{initial_of};
 ghost use Rattle.scm_orders.specs.Places.{WritesWhatIsRead};
 ghost use Rattle.scm_orders.specs.Facts.{fact_at as known_at, SomeHint};
-ghost use Rattle.scm_orders.specs.Candidates.{Overwrites, Denies, RulesOut, PutsWriteBefore, DeniesFirst, RulesOutFirst, HasFirst, Has, HasBy, IsSettled, IsFirstSettled, LeavesOnly, Leaves};
+ghost use Rattle.scm_orders.specs.Candidates.{Overwrites, Denies, RulesOut, PutsWriteBefore, DeniesFirst, RulesOutFirst, IsRuledOut, IsRuledOutFirst, HasFirst, Has, HasBy, IsSettled, IsFirstSettled, LeavesOnly, Leaves};
 
 use crate::basis::Basis;
 use crate::cut_trace::{CutTrace, Reading};
@@ -127,12 +127,19 @@ fn denies_first(trace: &CutTrace<'_>, fact: Fact, read: Reading) -> bool
     }
 }
 
+// Whether by the fact the read doesn't see first contents.
+fn rules_out_first(trace: &CutTrace<'_>, fact: Fact, read: Reading) -> bool
+    ensures { IsTrue result ↔ RulesOutFirst trace.now fact read }
+{
+    puts_write_before(trace, fact, read) || denies_first(trace, fact, read)
+}
+
 // Whether by this hint the read doesn't see first contents.
 fn hint_rules_out_first(on: &Basis<'_>, hint: u32, read: Reading) -> bool
     ensures { IsTrue result ↔ IsSomeAnd (known_at on.now.earlier.now hint) (λ fact. RulesOutFirst on.now.trace.now fact read) }
 {
     match fact_at(on.earlier, hint) {
-        Some(fact) => puts_write_before(on.trace, fact, read) || denies_first(on.trace, fact, read),
+        Some(fact) => rules_out_first(on.trace, fact, read),
         None => false,
     }
 }
@@ -277,6 +284,26 @@ pub(crate) fn writes_what_is_read(trace: &CutTrace<'_>, write: Place, read: Plac
 {
     match trace.reading(read) {
         Some(reading) => trace.written(write, reading.cell).is_some(),
+        None => false,
+    }
+}
+
+/// Whether there is a read at this place, which by the fact doesn't see the write.
+pub(crate) fn is_ruled_out(trace: &CutTrace<'_>, fact: Fact, read: Place, write: Place) -> bool
+    ensures { IsTrue result ↔ IsRuledOut trace.now fact read write }
+{
+    match trace.reading(read) {
+        Some(by) => rules_out(trace, fact, by, write),
+        None => false,
+    }
+}
+
+/// Whether there is a read at this place, which by the fact doesn't see first contents.
+pub(crate) fn is_ruled_out_first(trace: &CutTrace<'_>, fact: Fact, read: Place) -> bool
+    ensures { IsTrue result ↔ IsRuledOutFirst trace.now fact read }
+{
+    match trace.reading(read) {
+        Some(by) => rules_out_first(trace, fact, by),
         None => false,
     }
 }

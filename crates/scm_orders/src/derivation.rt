@@ -1,11 +1,11 @@
 //! Derivations: short refutations, line by line.
-ghost use Rattle.std.specs.Prelude.{◌≡◌};
-ghost use Rattle.scm_orders.specs.Facts.{order_of};
+ghost use Rattle.std.specs.Prelude.{◌≡◌, ◌↔◌, IsTrue};
+ghost use Rattle.scm_orders.specs.Facts.{order_of, IsContradiction};
 ghost use Rattle.scm_orders.specs.Refuting.{hints_of};
 
 use crate::Place;
 
-/// How many hints a line may have, but for one that is joined.
+/// How many hints a line may have, but for one that is joined or left by a lemma.
 pub const MOST_HINTS: u32 = 255;
 
 /// What a line says of every legal schedule.
@@ -87,6 +87,16 @@ impl Fact {
             Fact::Before { from, to } => Some((from, to)),
             Fact::Sees { write, read } | Fact::Hidden { write, read } => Some((write, read)),
             Fact::SeesFirst { .. } | Fact::Unseen { .. } | Fact::UnseenFirst { .. } => None,
+        }
+    }
+
+    /// Whether it puts an operation before itself, by the order of processes.
+    pub(crate) fn is_contradiction(self) -> bool
+        ensures { IsTrue result ↔ IsContradiction self }
+    {
+        match self.order() {
+            Some((from, to)) => to.is_up_to(from),
+            None => false,
         }
     }
 }

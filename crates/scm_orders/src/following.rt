@@ -1,11 +1,13 @@
 //! Whether a line follows from the trace and from earlier lines.
-ghost use Rattle.std.specs.Prelude.{ℕ, ◌<◌, ◌↔◌, All, length, IsTrue, IsSomeAnd};
+ghost use Rattle.std.specs.Prelude.{◌↔◌, All, IsTrue, IsSomeAnd};
 ghost use Rattle.scm_orders.specs.Facts.{fact_at as known_at};
-ghost use Rattle.scm_orders.specs.Following.{Follows, FollowsBy, HasFewHints, IsOf, AreOperations, IsOrdered, IsHiddenBy, IsHidden, IsBeforeAll, IsWriteBefore, HasReader, IsAfterSource, IsSource};
+ghost use Rattle.scm_orders.specs.Following.{Follows, IsNamed, FollowsBy, IsDrawn, HasFewHints, IsOf, AreOperations, IsOrdered, IsHiddenBy, IsHidden, IsBeforeAll, IsWriteBefore, HasReader, IsAfterSource, IsSource};
 
 use crate::basis::Basis;
+use crate::blocks::{is_placed, is_visible};
 use crate::candidates::{Left, leaves, writes_what_is_read};
 use crate::cut_trace::CutTrace;
+use crate::lemmas::is_lemma;
 use crate::showing::{fact_at, is_before, is_joined};
 use crate::{Fact, Line, MOST_HINTS, Place, Rule};
 
@@ -13,17 +15,28 @@ use crate::{Fact, Line, MOST_HINTS, Place, Rule};
 pub(crate) fn follows(on: &Basis<'_>, line: Line) -> bool
     ensures { IsTrue result ↔ Follows on.now.trace.now on.now.earlier.now on.now.hints.now line }
 {
-    are_earlier(on.earlier.len(), on.hints)
+    is_placed(on.earlier, line)
+        && are_named(on.earlier, line.block, on.hints)
         && has_few_hints(line.rule, line.count)
         && is_of(on.trace, line.fact)
         && follows_by(on, line.fact, line.rule)
 }
 
-// Whether the hints are numbers of the first `count` lines.
-fn are_earlier(count: usize, hints: &[u32]) -> bool
-    ensures { IsTrue result ↔ All (λ hint. hint < count) hints.now }
+// Whether the hints are numbers of lines that can be named in this block.
+fn are_named(earlier: &[Line], block: Option<u32>, hints: &[u32]) -> bool
+    ensures { IsTrue result ↔ All (IsNamed earlier.now block) hints.now }
 {
-    hints.iter().all(|hint| (*hint as usize) < count)
+    hints.iter().all(|hint| is_named(earlier, block, *hint))
+}
+
+// Whether this hint is.
+fn is_named(earlier: &[Line], block: Option<u32>, hint: u32) -> bool
+    ensures { IsTrue result ↔ IsNamed earlier.now block hint }
+{
+    match earlier.get(hint as usize) {
+        Some(line) => is_visible(line.block, block),
+        None => false,
+    }
 }
 
 // Whether the rule allows this many hints.
@@ -31,7 +44,7 @@ fn has_few_hints(rule: Rule, count: u32) -> bool
     ensures { IsTrue result ↔ HasFewHints rule count }
 {
     match rule {
-        Rule::Joined => true,
+        Rule::Joined | Rule::Lemma { .. } => true,
         _ => count <= MOST_HINTS,
     }
 }
@@ -58,6 +71,17 @@ fn are_operations(trace: &CutTrace<'_>, a: Place, b: Place) -> bool
 // Whether the fact follows by the rule.
 fn follows_by(on: &Basis<'_>, fact: Fact, rule: Rule) -> bool
     ensures { IsTrue result ↔ FollowsBy on.now.trace.now on.now.earlier.now on.now.hints.now fact rule }
+{
+    match rule {
+        Rule::Assumed => true,
+        Rule::Lemma { end } => is_lemma(on, fact, end),
+        _ => is_drawn(on, fact, rule),
+    }
+}
+
+// Whether it does by a rule that draws it from the hints alone.
+fn is_drawn(on: &Basis<'_>, fact: Fact, rule: Rule) -> bool
+    ensures { IsTrue result ↔ IsDrawn on.now.trace.now on.now.earlier.now on.now.hints.now fact rule }
 {
     match fact {
         Fact::Before { from, to } => is_ordered(on, from, to, rule),

@@ -3,11 +3,13 @@
 #![tactic(auto)]
 
 mod basis;
+mod blocks;
 mod candidates;
 mod cut_trace;
 mod derivation;
 mod following;
 mod laws;
+mod lemmas;
 mod place;
 mod refuting;
 mod showing;

@@ -2,21 +2,22 @@
 ghost use Rattle.std.specs.Prelude.{◌<◌, ◌↔◌, IsTrue, length};
 ghost use Rattle.scm_sequences.specs.Traces.{cut_to, trace_of};
 ghost use Rattle.scm_sequences.specs.Fronts.{IsConsistent};
-ghost use Rattle.scm_orders.specs.Refuting.{LineFollows, AllFollow, IsContradiction, Refutes};
+ghost use Rattle.scm_orders.specs.Refuting.{LineFollows, AllFollow, IsEnd, Refutes};
 
 use crate::basis::Basis;
 use crate::cut_trace::CutTrace;
 use crate::following::follows;
-use crate::{Derivation, Fact, Line};
+use crate::{Derivation, Line};
 use scm_sequences::{Lengths, Sequences};
 
 /// Whether this derivation refutes the trace with these first contents and these sequences, cut to these lengths: each line
-/// follows from the trace and the lines before it, and the last one puts an operation before itself. Then the trace has
-/// no legal schedule.
+/// follows from the trace and the lines before it, and the last one puts an operation before itself outside of blocks. Then
+/// the trace has no legal schedule.
 ///
-/// The derivation is data: a place beyond the lengths, hints that aren't there or aren't numbers of earlier lines, or a rule
-/// that doesn't hold refute nothing. It takes no memory. A line that tells what a read can see costs a look at each operation,
-/// and at the hints, at most 255, for each write of the value that was read; every other line costs a look at its hints.
+/// The derivation is data: a place beyond the lengths, hints that aren't there or can't be named, a block in which its line
+/// isn't to stand, or a rule that doesn't hold refute nothing. It takes no memory. A line that tells what a read can see costs a
+/// look at each operation, and at the hints, at most 255, for each write of the value that was read; every other line costs a
+/// look at its hints, and where a lemma leaves it at as many assumptions and one more.
 pub fn orders_refute(
     initials: &[Option<u64>],
     sequences: &Sequences,
@@ -35,19 +36,16 @@ fn refute(trace: &CutTrace<'_>, lines: &[Line], hints: &[u32]) -> bool
     ensures { IsTrue result ↔ Refutes trace.now lines.now hints.now }
 {
     match lines.last() {
-        Some(line) => is_contradiction(line.fact) && all_follow(trace, lines, hints),
+        Some(line) => is_end(*line) && all_follow(trace, lines, hints),
         None => false,
     }
 }
 
-// Whether the fact puts an operation before itself.
-fn is_contradiction(fact: Fact) -> bool
-    ensures { IsTrue result ↔ IsContradiction fact }
+// Whether the line puts an operation before itself, outside of blocks.
+fn is_end(line: Line) -> bool
+    ensures { IsTrue result ↔ IsEnd line }
 {
-    match fact.order() {
-        Some((from, to)) => to.is_up_to(from),
-        None => false,
-    }
+    line.block.is_none() && line.fact.is_contradiction()
 }
 
 // Whether each line follows from the trace and the lines before it.

@@ -33,9 +33,9 @@ rule_eq-Decides AfterSource b = search rules
 rule_eq-Decides Assumed b = search rules
 rule_eq-Decides (Lemma end) b = search rules
 
-line_Decides : (fact rule : Bool) (a b : Line) → Decides fact (a.fact ≡ b.fact) → Decides rule (a.rule ≡ b.rule)
-    → Decides (fact && (rule && (a.first == b.first && a.count == b.count))) (a ≡ b)
-line_Decides fact rule a b facts_are rules_are = search rules
+line_Decides : (fact rule block : Bool) (a b : Line) → Decides fact (a.fact ≡ b.fact) → Decides rule (a.rule ≡ b.rule) → Decides block (a.block ≡ b.block)
+    → Decides (fact && (rule && (a.first == b.first && (a.count == b.count && block)))) (a ≡ b)
+line_Decides fact rule block a b facts_are rules_are blocks_are = search rules
 
 pub line_eq-Decides : (a b : Line) → Decides (lines.ghosts.eq a b) (a ≡ b)
-line_eq-Decides a b = line_Decides _ _ a b (fact_eq-Decides a.fact b.fact) (rule_eq-Decides a.rule b.rule)
+line_eq-Decides a b = line_Decides _ _ _ a b (fact_eq-Decides a.fact b.fact) (rule_eq-Decides a.rule b.rule) (search rules)

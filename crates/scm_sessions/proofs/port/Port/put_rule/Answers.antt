@@ -6,3 +6,6 @@ returns-in-Hidden-clause-bytes g c = rw c.in-Hidden.is (Sends-trans c.put-in-Hid
 
 pub returns-in-AfterSource-clause-bytes : goal.returns-in-AfterSource-clause-bytes
 returns-in-AfterSource-clause-bytes g c = rw c.in-AfterSource.is c.put-in-AfterSource.ensures.bytes
+
+pub returns-in-Lemma-clause-bytes : goal.returns-in-Lemma-clause-bytes
+returns-in-Lemma-clause-bytes g c = rw c.in-Lemma.is (Sends-trans c.put-in-Lemma.ensures.bytes c.put_hint.ensures.bytes)
