@@ -12,9 +12,9 @@ const FUEL: u64 = 32_768;
 const LEAST_FUEL: u64 = 1_000_000;
 
 /// A derivation that refutes the trace with these first contents (`None` is an open cell) and these sequences, cut to
-/// these lengths, or `None` where none was found: where a schedule exists, where the rules draw too little, after so many
-/// steps for each operation, and where memory is refused. Nothing is promised of it: `scm_orders::orders_refute` tells
-/// whether it is one.
+/// these lengths, or `None` where none was found: where a schedule exists, after so many steps for each operation, where it
+/// would be too long, and where memory is refused. Nothing is promised of it: `scm_orders::orders_refute` tells whether it is
+/// one.
 pub fn find_cycle(
     alloc: Global,
     initials: &[Option<u64>],
