@@ -1,7 +1,7 @@
 //! What a step about what a read may see follows from.
 use crate::search::Search;
 use crate::steps::Need;
-use crate::views::{Share, View};
+use crate::views::{Share, View, part};
 
 /// What is to be shown of the writes that are left: nothing, or that each is this operation or comes after it, or that each
 /// comes before it.
@@ -35,6 +35,9 @@ impl Search {
         if let Some(write) = share.hidden {
             needs.push(self.hiding(view, write)?).ok()?;
         }
+        for (from, to) in share.unseen {
+            self.add_unseen(needs, view, from, to)?;
+        }
         if let Some((first, last)) = share.left {
             match goal {
                 Goal::After(from) if from != first => needs
@@ -47,6 +50,15 @@ impl Search {
         if let Some(to) = share.later {
             let from = view.read;
             needs.push(Need::Order { from, to }).ok()?;
+        }
+        Some(())
+    }
+
+    // The steps that rule out the writes between two places of the value's list.
+    fn add_unseen(&self, needs: &mut Vec<Need>, view: &View, from: usize, to: usize) -> Option<()> {
+        for write in part(self.writers.of(view.value)?, from, to) {
+            let id = self.unseen(*write, view.read)??;
+            needs.push(Need::Step(id)).ok()?;
         }
         Some(())
     }
@@ -87,8 +99,17 @@ impl Search {
                 from: *from,
                 to: view.read,
             },
-            None => Need::Step((*self.firsts.get(view.cell as usize)?)?.1),
+            None => Need::Step(self.first_ruled_out(view.read, view.cell)?),
         };
         needs.push(need).ok()
+    }
+
+    // The step that tells that the read doesn't see first contents, or what they are.
+    fn first_ruled_out(&self, read: u32, cell: u32) -> Option<u32> {
+        if let Some(id) = self.unseen_first(read)? {
+            return Some(id);
+        }
+        let (_, id) = self.settled.first(cell)??;
+        Some(id)
     }
 }

@@ -1,194 +1,356 @@
 //! The derivation of what a contradiction needs, gathered back from it.
+use crate::claims::{Claim, Kind};
+use crate::conflict::Conflict;
 use crate::lines::Lines;
+use crate::pieces::Piece;
 use crate::search::Search;
 use crate::steps::{Need, Step, Why};
-use scm_orders::{Derivation, Fact, Rule};
+use crate::ways::{OUTSIDE, Written};
+use scm_orders::{Derivation, Fact, Line, Rule};
 use std::alloc::Global;
 
-/// Which steps are needed, by number, and the line that each was written as.
+/// Which steps and which clauses are needed, by number, the line that each was written as, and the line that each clause's
+/// block ended with.
 #[derive(Drop)]
 struct Gathering<'a> {
     search: &'a Search,
+    conflict: &'a Conflict,
     is_needed: Vec<bool>,
-    line_of: Vec<Option<u32>>,
+    is_clause_needed: Vec<bool>,
+    ends: Vec<Option<u32>>,
+    written: Written<'a>,
     lines: Lines,
 }
 
-/// The lines that end with an operation before itself, by the step that closed the cycle.
-pub(crate) fn gather(alloc: Global, search: &Search, closing: u32) -> Option<Derivation> {
-    let count = closing.checked_add(1)?;
-    let mut gathering = Gathering {
-        search,
-        is_needed: vec![in alloc; false; count as usize].ok()?,
-        line_of: vec![in alloc; None; count as usize].ok()?,
-        lines: Lines::new(alloc),
-    };
-    gathering.gather(closing)?;
-    let lines = gathering.lines;
+/// The lines that end with an operation before itself, of all that the contradiction needs.
+pub(crate) fn gather(alloc: Global, search: &Search, conflict: &Conflict) -> Option<Derivation> {
+    let mut gathering = Gathering::new(alloc, search, conflict)?;
+    gathering.mark_closing()?;
+    gathering.mark_all()?;
+    gathering.write_all()?;
+    gathering.close()?;
+    let Gathering { lines, .. } = gathering;
     Some(lines.derivation)
 }
 
-// The rule of a step's line.
-fn rule_of(why: Why) -> Rule {
-    match why {
-        Why::Source | Why::First => Rule::Source,
-        Why::AfterAll => Rule::AfterAll,
-        Why::BeforeAll => Rule::BeforeAll,
-        Why::AfterSource => Rule::AfterSource,
-    }
+/// The block that shows that not all of what contradicts itself is so. It names the lines outside of it by their steps, and
+/// the ends of earlier blocks by their clauses.
+pub(crate) fn draft(alloc: Global, search: &Search, conflict: &Conflict) -> Option<Derivation> {
+    let mut gathering = Gathering::new(alloc, search, conflict)?;
+    gathering.suppose()?;
+    gathering.mark_closing()?;
+    gathering.mark_steps()?;
+    gathering.write_steps()?;
+    gathering.close()?;
+    let Gathering { lines, .. } = gathering;
+    Some(lines.derivation)
 }
 
 impl<'a> Gathering<'a> {
-    fn gather(&mut self, closing: u32) -> Option<()> {
-        let Step { from, to, .. } = self.search.steps.get(closing)?;
-        self.mark(closing)?;
-        if from != to {
-            self.mark_path(to, from)?;
+    fn new(alloc: Global, search: &'a Search, conflict: &'a Conflict) -> Option<Gathering<'a>> {
+        let count = conflict.closing.checked_add(1)? as usize;
+        let clauses = search.clauses.len()? as usize;
+        Some(Gathering {
+            search,
+            conflict,
+            is_needed: vec![in alloc; false; count].ok()?,
+            is_clause_needed: vec![in alloc; false; clauses].ok()?,
+            ends: vec![in alloc; None; clauses].ok()?,
+            written: Written {
+                search,
+                conflict,
+                line_of: vec![in alloc; None; count].ok()?,
+            },
+            lines: Lines::new(alloc),
+        })
+    }
+
+    // The level up to which a step's needs are steps and not stretches.
+    fn level_of(&self, id: u32) -> Option<u32> {
+        if id == self.conflict.closing {
+            return Some(self.conflict.level);
         }
-        self.mark_all(closing)?;
-        self.write_all(closing)?;
-        if from != to {
-            self.close(closing, from, to)?;
+        Some(self.search.steps.get(id)?.level.min(self.conflict.level))
+    }
+
+    fn suppose(&mut self) -> Option<()> {
+        let conflict = self.conflict;
+        for order in &conflict.orders {
+            self.add_supposed(Claim::before(order.from, order.to))?;
+        }
+        for id in &conflict.steps {
+            let claim = self.search.steps.get(*id)?.claim;
+            let line = self.add_supposed(claim)?;
+            *self.written.line_of.get_mut(*id as usize)? = Some(line);
         }
         Some(())
     }
 
+    fn add_supposed(&mut self, claim: Claim) -> Option<u32> {
+        let fact = self.fact_of(claim)?;
+        self.lines.add(fact, Rule::Assumed, &[])
+    }
+
     fn mark(&mut self, id: u32) -> Option<()> {
+        if self.conflict.has(id) || self.written.is_outside(id)? {
+            return Some(());
+        }
         *self.is_needed.get_mut(id as usize)? = true;
         Some(())
     }
 
-    fn mark_path(&mut self, from: u32, to: u32) -> Option<()> {
-        for id in &self.search.path(from, to)? {
-            self.mark(*id)?;
+    fn mark_closing(&mut self) -> Option<()> {
+        let closing = self.conflict.closing;
+        let Claim { from, to, .. } = self.search.steps.get(closing)?.claim;
+        *self.is_needed.get_mut(closing as usize)? = true;
+        if from != to {
+            self.mark_way(to, from, self.conflict.level)?;
         }
         Some(())
     }
 
-    // Marks what is needed, from the newest step on.
-    fn mark_all(&mut self, closing: u32) -> Option<()> {
-        for back in 0..=closing {
-            let id = closing.checked_sub(back)?;
-            if *self.is_needed.get(id as usize)? {
+    fn mark_way(&mut self, from: u32, to: u32, level: u32) -> Option<()> {
+        for piece in &self.search.pieces(from, to, level)? {
+            if let Piece::Step(id) = *piece {
+                self.mark(id)?;
+            }
+        }
+        Some(())
+    }
+
+    // Marks the steps that are needed, from the newest on.
+    fn mark_steps(&mut self) -> Option<()> {
+        for back in 0..=self.conflict.closing {
+            self.mark_needs(self.conflict.closing.checked_sub(back)?)?;
+        }
+        Some(())
+    }
+
+    // Marks the steps and the clauses that are needed, from the newest on.
+    fn mark_all(&mut self) -> Option<()> {
+        let mut clauses = self.search.clauses.len()?;
+        let count = self.conflict.closing.checked_add(1)?;
+        for back in 0..=count {
+            let left = count.checked_sub(back)?;
+            clauses = self.mark_blocks(clauses, left)?;
+            if let Some(id) = left.checked_sub(1) {
                 self.mark_needs(id)?;
             }
         }
         Some(())
     }
 
-    fn mark_needs(&mut self, id: u32) -> Option<()> {
-        for at in self.search.steps.needs(id)? {
-            match self.search.steps.need(at)? {
-                Need::Step(id) => self.mark(id)?,
-                Need::Order { from, to } | Need::Hiding { from, to } => self.mark_path(from, to)?,
-                Need::Hidden { write, by, read } => {
-                    self.mark_path(write, by)?;
-                    self.mark_path(by, read)?;
-                }
+    // Marks what the blocks need that were written after so many steps. How many clauses are left.
+    fn mark_blocks(&mut self, clauses: u32, steps: u32) -> Option<u32> {
+        for back in 0..clauses {
+            let k = clauses.checked_sub(back)?.checked_sub(1)?;
+            if self.search.clauses.base(k)? < steps {
+                return k.checked_add(1);
+            }
+            if *self.is_clause_needed.get(k as usize)? {
+                self.mark_block(k)?;
+            }
+        }
+        Some(0)
+    }
+
+    fn mark_block(&mut self, k: u32) -> Option<()> {
+        let block = self.search.clauses.block(k)?;
+        for line in &block.lines {
+            if let Rule::Lemma { end } = line.rule {
+                *self.is_clause_needed.get_mut(end as usize)? = true;
+            }
+        }
+        for hint in &block.hints {
+            if *hint >= OUTSIDE {
+                self.mark(*hint & !OUTSIDE)?;
             }
         }
         Some(())
     }
 
-    // Writes what is needed, from the oldest step on.
-    fn write_all(&mut self, closing: u32) -> Option<()> {
-        for id in 0..=closing {
-            if *self.is_needed.get(id as usize)? {
-                self.write(id)?;
+    fn mark_needs(&mut self, id: u32) -> Option<()> {
+        if !*self.is_needed.get(id as usize)? {
+            return Some(());
+        }
+        if let Why::Clause(k) = self.search.steps.get(id)?.why {
+            *self.is_clause_needed.get_mut(k as usize)? = true;
+        }
+        let level = self.level_of(id)?;
+        for at in self.search.steps.needs(id)? {
+            let need = self.search.steps.need(at)?;
+            if let Need::Step(id) = need {
+                self.mark(id)?;
+            }
+            for (from, to) in Search::orders_of(need).into_iter().flatten() {
+                self.mark_way(from, to, level)?;
             }
         }
         Some(())
+    }
+
+    // Writes the steps that are needed, from the oldest on.
+    fn write_steps(&mut self) -> Option<()> {
+        for id in 0..=self.conflict.closing {
+            self.write(id)?;
+        }
+        Some(())
+    }
+
+    // Writes the blocks and the steps that are needed, from the oldest on.
+    fn write_all(&mut self) -> Option<()> {
+        let mut clauses = 0;
+        for id in 0..=self.conflict.closing {
+            clauses = self.write_blocks(clauses, id)?;
+            self.write(id)?;
+        }
+        Some(())
+    }
+
+    // Writes the blocks that need nothing from this step on. How many clauses are done.
+    fn write_blocks(&mut self, clauses: u32, id: u32) -> Option<u32> {
+        let count = self.search.clauses.len()?;
+        for k in clauses..count {
+            if self.search.clauses.base(k)? > id {
+                return Some(k);
+            }
+            if *self.is_clause_needed.get(k as usize)? {
+                self.write_block(k)?;
+            }
+        }
+        Some(count)
+    }
+
+    fn write_block(&mut self, k: u32) -> Option<()> {
+        let block = self.search.clauses.block(k)?;
+        let first = self.lines.open_block()?;
+        for line in &block.lines {
+            self.copy(*line, line.hints_in(&block.hints), first)?;
+        }
+        self.lines.close_block();
+        let end = self.lines.len()?.checked_sub(1)?;
+        *self.ends.get_mut(k as usize)? = Some(end);
+        Some(())
+    }
+
+    // Writes a line of a block that begins at line `first`.
+    fn copy(&mut self, line: Line, named: &[u32], first: u32) -> Option<()> {
+        let mut hints = Vec::new(self.search.alloc);
+        for hint in named {
+            let number = if *hint >= OUTSIDE {
+                self.written.line(*hint & !OUTSIDE)?
+            } else {
+                hint.checked_add(first)?
+            };
+            hints.push(number).ok()?;
+        }
+        let rule = match line.rule {
+            Rule::Lemma { end } => self.lemma(end)?,
+            rule => rule,
+        };
+        self.lines.add(line.fact, rule, &hints)?;
+        Some(())
+    }
+
+    // By this clause: in a block its number stands for the end of its block.
+    fn lemma(&self, k: u32) -> Option<Rule> {
+        if self.conflict.level > 0 {
+            return Some(Rule::Lemma { end: k });
+        }
+        let end = (*self.ends.get(k as usize)?)?;
+        Some(Rule::Lemma { end })
     }
 
     fn write(&mut self, id: u32) -> Option<()> {
+        if !*self.is_needed.get(id as usize)? {
+            return Some(());
+        }
         let step = self.search.steps.get(id)?;
+        let level = self.level_of(id)?;
         let mut hints = Vec::new(self.search.alloc);
         for at in self.search.steps.needs(id)? {
             let need = self.search.steps.need(at)?;
-            if let Some(line) = self.name(need)?
-                && !hints.contains(&line)
+            if let Some(line) = self.name(need, level)?
+                && (is_clause(step) || !hints.contains(&line))
             {
                 hints.push(line).ok()?;
             }
         }
-        let fact = self.fact_of(step)?;
-        let line = self.lines.add(fact, rule_of(step.why), &hints)?;
-        *self.line_of.get_mut(id as usize)? = Some(line);
+        let (fact, rule) = (self.fact_of(step.claim)?, self.rule_of(step.why)?);
+        let line = self.lines.add(fact, rule, &hints)?;
+        *self.written.line_of.get_mut(id as usize)? = Some(line);
         Some(())
     }
 
-    fn fact_of(&self, step: Step) -> Option<Fact> {
-        let (from, to) = (self.search.place(step.from)?, self.search.place(step.to)?);
-        Some(match step.why {
-            Why::Source => Fact::Sees {
-                write: from,
-                read: to,
-            },
-            Why::First => Fact::SeesFirst { read: to },
-            _ => Fact::Before { from, to },
+    fn rule_of(&self, why: Why) -> Option<Rule> {
+        Some(match why {
+            Why::Source | Why::First => Rule::Source,
+            Why::AfterAll => Rule::AfterAll,
+            Why::BeforeAll => Rule::BeforeAll,
+            Why::AfterSource => Rule::AfterSource,
+            Why::Assumed => Rule::Assumed,
+            Why::Clause(k) => self.lemma(k)?,
         })
     }
 
-    fn line(&self, id: u32) -> Option<u32> {
-        *self.line_of.get(id as usize)?
+    fn fact_of(&self, claim: Claim) -> Option<Fact> {
+        let (from, to) = (self.search.place(claim.from)?, self.search.place(claim.to)?);
+        let (write, read) = (from, to);
+        Some(match claim.kind {
+            Kind::Before => Fact::Before { from, to },
+            Kind::Sees => Fact::Sees { write, read },
+            Kind::SeesFirst => Fact::SeesFirst { read },
+            Kind::Unseen => Fact::Unseen { write, read },
+            Kind::UnseenFirst => Fact::UnseenFirst { read },
+        })
     }
 
     // The line that shows what is needed: none where the order of a process does.
-    fn name(&mut self, need: Need) -> Option<Option<u32>> {
+    fn name(&mut self, need: Need, level: u32) -> Option<Option<u32>> {
         Some(match need {
-            Need::Step(id) => Some(self.line(id)?),
-            Need::Order { from, to } => self.name_order(from, to)?,
-            Need::Hiding { from, to } => Some(self.name_from(from, to)?),
-            Need::Hidden { write, by, read } => Some(self.name_hidden(write, by, read)?),
+            Need::Step(id) => Some(self.written.line(id)?),
+            Need::Order { from, to } => self.name_order(from, to, level)?,
+            Need::Hiding { from, to } => Some(self.name_from(from, to, level)?),
+            Need::Hidden { write, by, read } => Some(self.name_hidden(write, by, read, level)?),
         })
     }
 
-    fn name_order(&mut self, from: u32, to: u32) -> Option<Option<u32>> {
-        let path = self.search.path(from, to)?;
-        match path.first() {
-            Some(id) if path.len() == 1 => Some(Some(self.line(*id)?)),
-            Some(id) => {
-                let from = self.search.steps.get(*id)?.from;
-                Some(Some(self.join(&path, from, to)?))
-            }
+    fn name_order(&mut self, from: u32, to: u32, level: u32) -> Option<Option<u32>> {
+        let way = self.written.way(from, to, level)?;
+        match way.hints.first() {
+            Some(hint) if way.hints.len() == 1 => Some(Some(*hint)),
+            Some(_) => Some(Some(self.join(&way.hints, way.begin, to)?)),
             None => Some(None),
         }
     }
 
     // By a line that begins at the one operation.
-    fn name_from(&mut self, from: u32, to: u32) -> Option<u32> {
-        let path = self.search.path(from, to)?;
-        match path.first() {
-            Some(id) if path.len() == 1 && self.search.steps.get(*id)?.from == from => self.line(
-                *id,
-            ),
-            _ => self.join(&path, from, to),
+    fn name_from(&mut self, from: u32, to: u32, level: u32) -> Option<u32> {
+        let way = self.written.way(from, to, level)?;
+        match way.hints.first() {
+            Some(hint) if way.hints.len() == 1 && way.start == from => Some(*hint),
+            _ => self.join(&way.hints, from, to),
         }
     }
 
-    // The line that joins these steps, from the one operation to the other.
-    fn join(&mut self, path: &[u32], from: u32, to: u32) -> Option<u32> {
+    // The line that joins these, from the one operation to the other.
+    fn join(&mut self, hints: &[u32], from: u32, to: u32) -> Option<u32> {
         let key = (from, from, to);
         if let Some(line) = self.lines.known(key) {
             return Some(line);
         }
-        let mut hints = Vec::new(self.search.alloc);
-        for id in path {
-            hints.push(self.line(*id)?).ok()?;
-        }
-        let (from, to) = (self.search.place(from)?, self.search.place(to)?);
-        let fact = Fact::Before { from, to };
-        self.lines.keep(key, fact, Rule::Joined, &hints)
+        let fact = self.fact_of(Claim::before(from, to))?;
+        self.lines.keep(key, fact, Rule::Joined, hints)
     }
 
-    fn name_hidden(&mut self, write: u32, by: u32, read: u32) -> Option<u32> {
+    fn name_hidden(&mut self, write: u32, by: u32, read: u32, level: u32) -> Option<u32> {
         let key = (by, write, read);
         if let Some(line) = self.lines.known(key) {
             return Some(line);
         }
         let mut hints = Vec::new(self.search.alloc);
         for (from, to) in [(write, by), (by, read)] {
-            if let Some(line) = self.name_order(from, to)? {
+            if let Some(line) = self.name_order(from, to, level)? {
                 hints.push(line).ok()?;
             }
         }
@@ -199,22 +361,27 @@ impl<'a> Gathering<'a> {
     }
 
     // Joins the closing step and the way back from its end to its beginning.
-    fn close(&mut self, closing: u32, from: u32, to: u32) -> Option<()> {
-        let path = self.search.path(to, from)?;
-        if path.is_empty() {
+    fn close(&mut self) -> Option<()> {
+        let closing = self.conflict.closing;
+        let Claim { from, to, .. } = self.search.steps.get(closing)?.claim;
+        if from == to {
+            return Some(());
+        }
+        let way = self.written.way(to, from, self.conflict.level)?;
+        if way.hints.is_empty() {
             return Some(());
         }
         let mut hints = Vec::new(self.search.alloc);
-        hints.push(self.line(closing)?).ok()?;
-        for id in &path {
-            hints.push(self.line(*id)?).ok()?;
+        hints.push(self.written.line(closing)?).ok()?;
+        for hint in &way.hints {
+            hints.push(*hint).ok()?;
         }
-        let place = self.search.place(from)?;
-        let fact = Fact::Before {
-            from: place,
-            to: place,
-        };
+        let fact = self.fact_of(Claim::before(from, from))?;
         self.lines.add(fact, Rule::Joined, &hints)?;
         Some(())
     }
+}
+
+fn is_clause(step: Step) -> bool {
+    matches!(step.why, Why::Clause(_))
 }

@@ -4,16 +4,17 @@ use scm_orders::{Derivation, Fact, Line, Rule};
 use std::alloc::Global;
 
 /// The most lines of a derivation.
-const MOST_LINES: usize = 1 << 16;
+const MOST_LINES: usize = 20_000;
 
 /// The operations that a line is about, the one in the midst first: where there is none, that is the first one again.
 type Key = (u32, u32, u32);
 
-/// The lines so far, and which of them may be needed again.
+/// The lines so far, which of them may be needed again, and the first line of the block that is open.
 #[derive(Drop)]
 pub(crate) struct Lines {
     pub(crate) derivation: Derivation,
     known: IndexMap<Key, u32>,
+    block: Option<u32>,
 }
 
 impl Lines {
@@ -24,7 +25,23 @@ impl Lines {
                 hints: Vec::new(alloc),
             },
             known: IndexMap::new(alloc),
+            block: None,
         }
+    }
+
+    /// How many lines there are.
+    pub(crate) fn len(&self) -> Option<u32> {
+        u32::try_from(self.derivation.lines.len()).ok()
+    }
+
+    /// The next line is the first one of a block.
+    pub(crate) fn open_block(&mut self) -> Option<u32> {
+        self.block = Some(self.len()?);
+        self.block
+    }
+
+    pub(crate) fn close_block(&mut self) {
+        self.block = None;
     }
 
     /// Adds a line, and gives its number.
@@ -32,7 +49,7 @@ impl Lines {
         if self.derivation.lines.len() >= MOST_LINES {
             return None;
         }
-        let number = u32::try_from(self.derivation.lines.len()).ok()?;
+        let number = self.len()?;
         let first = u32::try_from(self.derivation.hints.len()).ok()?;
         for hint in hints {
             self.derivation.hints.push(*hint).ok()?;
@@ -43,7 +60,7 @@ impl Lines {
             rule,
             first,
             count,
-            block: None,
+            block: self.block,
         };
         self.derivation.lines.push(line).ok()?;
         Some(number)

@@ -2,7 +2,7 @@
 use std::alloc::Global;
 
 /// The most rises of a trace: one that has more gets no list.
-const MOST_RISES: u32 = 1 << 25;
+const MOST_RISES: usize = 1 << 25;
 
 /// From this place on the clocks of a process have this count, by this step.
 #[derive(Clone, Copy)]
@@ -18,7 +18,8 @@ struct Rise {
 pub(crate) struct Rises {
     procs: u32,
     lists: Vec<Vec<Rise>>,
-    total: u32,
+    /// In which list each rise stands, from the oldest on.
+    places: Vec<u32>,
 }
 
 impl Rises {
@@ -30,7 +31,7 @@ impl Rises {
         Some(Rises {
             procs,
             lists,
-            total: 0,
+            places: Vec::new(alloc),
         })
     }
 
@@ -49,12 +50,26 @@ impl Rises {
     ) -> Option<()> {
         let (owner, at) = spot;
         let place = self.place(owner, process)?;
-        if self.total >= MOST_RISES {
+        if self.places.len() >= MOST_RISES {
             return None;
         }
-        self.total = self.total.saturating_add(1);
         let list = self.lists.get_mut(place)?;
-        list.push(Rise { at, count, by }).ok()
+        list.push(Rise { at, count, by }).ok()?;
+        self.places.push(u32::try_from(place).ok()?).ok()
+    }
+
+    /// How many there are.
+    pub(crate) fn len(&self) -> usize {
+        self.places.len()
+    }
+
+    /// Takes back all but the first so many.
+    pub(crate) fn take_back(&mut self, kept: usize) -> Option<()> {
+        for _ in kept..self.places.len() {
+            let place = self.places.pop()?;
+            let _ = self.lists.get_mut(place as usize)?.pop();
+        }
+        Some(())
     }
 
     /// The step by which so many of a process came before this place of its owner first.

@@ -1,20 +1,18 @@
 //! The rules by which orders are drawn.
+use crate::claims::{Claim, Kind};
 use crate::evidence::Goal;
 use crate::search::Search;
 use crate::steps::{Need, Why};
 use crate::views::{Left, View};
 
 impl Search {
-    /// Draws all that follows, round by round, until a cycle is closed or nothing is new. The step that closed it.
-    pub(crate) fn run(&mut self) -> Option<u32> {
+    /// Draws all that follows, round by round, until a cycle is closed or nothing is new. The step that closed it, if one did.
+    pub(crate) fn run(&mut self) -> Option<Option<u32>> {
         for _ in 0..self.fuel {
             let before = self.steps.len()?;
             self.visit_all()?;
-            if self.closing.is_some() {
-                return self.closing;
-            }
-            if self.steps.len()? == before {
-                return None;
+            if self.closing.is_some() || self.steps.len()? == before {
+                return Some(self.closing);
             }
         }
         None
@@ -34,14 +32,17 @@ impl Search {
         Some(())
     }
 
-    // Draws what follows from what this read sees, or may see.
-    fn visit(&mut self, read: u32, cell: u32, value: u32) -> Option<()> {
-        if self.sources.get(read as usize)?.is_none() {
+    /// Draws what follows from what this read sees, or may see.
+    pub(crate) fn visit(&mut self, read: u32, cell: u32, value: u32) -> Option<()> {
+        if self.settled.source(read)?.is_none() {
             self.burn(self.procs.checked_mul(self.procs)?)?;
             let view = self.view(read, cell, value)?;
+            self.note_left(&view)?;
             self.look(&view)?;
         }
-        if let Some(source) = *self.sources.get(read as usize)? {
+        if self.closing.is_none()
+            && let Some(source) = self.settled.source(read)?
+        {
             self.follow_source(read, cell, source)?;
         }
         Some(())
@@ -51,11 +52,13 @@ impl Search {
     fn look(&mut self, view: &View) -> Option<()> {
         match view.left() {
             Left::Nothing if !view.is_first_left => {
-                self.draw_by(view, view.read, view.read, Why::AfterAll, Goal::Nothing)?;
+                let claim = Claim::before(view.read, view.read);
+                self.draw_by(view, claim, Why::AfterAll, Goal::Nothing)?;
             }
             Left::Only(write) if !view.is_first_left => {
-                let id = self.draw_by(view, write, view.read, Why::Source, Goal::Nothing)?;
-                *self.sources.get_mut(view.read as usize)? = Some(id);
+                let claim = Claim::sees(write, view.read);
+                let id = self.draw_by(view, claim, Why::Source, Goal::Nothing)?;
+                self.settle(claim, id)?;
             }
             left => {
                 if let Left::Nothing = left {
@@ -68,21 +71,23 @@ impl Search {
     }
 
     // Draws an order by all that the read may see.
-    fn draw_by(&mut self, view: &View, from: u32, to: u32, why: Why, goal: Goal) -> Option<u32> {
+    fn draw_by(&mut self, view: &View, claim: Claim, why: Why, goal: Goal) -> Option<u32> {
         let needs = self.needs(view, goal)?;
-        self.draw(from, to, why, &needs)
+        self.draw(claim, why, &needs)
     }
 
     // The read sees first contents: of an unset cell that is news for other reads.
     fn settle_first(&mut self, view: &View) -> Option<()> {
-        let first = self.firsts.get(view.cell as usize)?;
-        if first.is_some() || self.values.first(view.cell)?.is_some() {
+        if self.settled.first(view.cell)?.is_some() || self.values.first(view.cell)?.is_some() {
             return Some(());
         }
         let needs = self.needs(view, Goal::Nothing)?;
-        let id = self.steps.add(view.read, view.read, Why::First, &needs)?;
-        *self.firsts.get_mut(view.cell as usize)? = Some((view.value, id));
-        Some(())
+        let claim = Claim::sees_first(view.read);
+        let id = self.add(claim, Why::First, &needs)?;
+        if self.waiting.is_noted() {
+            self.settle(claim, id)?;
+        }
+        self.set_first(view.cell, view.value, id)
     }
 
     // The read comes after what all that is left comes after, and before the writes that all of it comes before.
@@ -108,7 +113,8 @@ impl Search {
         }
         if count > self.before(view.read, process)? {
             let from = self.numbering.number(process, count.checked_sub(1)?)?;
-            self.draw_by(view, from, view.read, Why::AfterAll, Goal::After(from))?;
+            let claim = Claim::before(from, view.read);
+            self.draw_by(view, claim, Why::AfterAll, Goal::After(from))?;
         }
         Some(())
     }
@@ -121,7 +127,8 @@ impl Search {
         if let Some(to) = self.write_from(view.read, view.cell, process, place)
             && !self.is_before(view.read, to)?
         {
-            self.draw_by(view, view.read, to, Why::BeforeAll, Goal::Before(to))?;
+            let claim = Claim::before(view.read, to);
+            self.draw_by(view, claim, Why::BeforeAll, Goal::Before(to))?;
         }
         Some(())
     }
@@ -136,9 +143,31 @@ impl Search {
             .number(process, self.writes.from(process, cell, place)?)
     }
 
-    // Draws what follows from a write that is seen.
+    // Draws what follows from what is seen.
     fn follow_source(&mut self, read: u32, cell: u32, source: u32) -> Option<()> {
-        let write = self.steps.get(source)?.from;
+        let claim = self.steps.get(source)?.claim;
+        match claim.kind {
+            Kind::SeesFirst => self.follow_first(read, cell, source),
+            _ => self.follow_write(read, cell, source, claim.from),
+        }
+    }
+
+    // Draws what follows from first contents that are seen.
+    fn follow_first(&mut self, read: u32, cell: u32, source: u32) -> Option<()> {
+        for process in 0..self.procs {
+            if self.closing.is_none()
+                && let Some(to) = self.write_from(read, cell, process, 0)
+                && !self.is_before(read, to)?
+            {
+                let claim = Claim::before(read, to);
+                self.draw(claim, Why::BeforeAll, &[Need::Step(source)])?;
+            }
+        }
+        Some(())
+    }
+
+    // Draws what follows from a write that is seen.
+    fn follow_write(&mut self, read: u32, cell: u32, source: u32, write: u32) -> Option<()> {
         for process in 0..self.procs {
             if self.closing.is_some() {
                 break;
@@ -166,7 +195,7 @@ impl Search {
             && !self.is_before(from, write)?
         {
             let needs = [Need::Step(source), Need::Order { from, to: read }];
-            self.draw(from, write, Why::AfterSource, &needs)?;
+            self.draw(Claim::before(from, write), Why::AfterSource, &needs)?;
         }
         Some(())
     }
@@ -183,7 +212,7 @@ impl Search {
             && !self.is_before(read, to)?
         {
             let needs = [Need::Step(source), Need::Order { from: write, to }];
-            self.draw(read, to, Why::BeforeAll, &needs)?;
+            self.draw(Claim::before(read, to), Why::BeforeAll, &needs)?;
         }
         Some(())
     }

@@ -1,6 +1,14 @@
 //! What comes before what in every legal schedule, as far as it was drawn.
+use crate::backward::lower;
+use crate::choices::Choices;
+use crate::claims::Claim;
+use crate::clauses::Clauses;
+use crate::readers::Readers;
 use crate::rises::Rises;
+use crate::settled::Settled;
 use crate::steps::{Need, Steps, Why};
+use crate::trail::Trail;
+use crate::waiting::Waiting;
 use scm_clocks::{Clocks, Flags, Numbering, Values, Writers, Writes};
 use scm_orders::Place;
 use scm_sequences::{Lengths, Sequences};
@@ -18,17 +26,23 @@ pub(crate) struct Search {
     pub(crate) values: Values,
     pub(crate) writes: Writes,
     pub(crate) writers: Writers,
+    pub(crate) readers: Readers,
     pub(crate) steps: Steps,
     pub(crate) procs: u32,
     pub(crate) ops: u32,
-    /// The step that tells which write a read sees, once that is drawn.
-    pub(crate) sources: Vec<Option<u32>>,
-    /// The value that an unset cell held at first, and the step that tells so, once that is drawn.
-    pub(crate) firsts: Vec<Option<(u32, u32)>>,
-    clocks: Clocks,
-    rises: Rises,
+    /// What reads see, so far.
+    pub(crate) settled: Settled,
+    /// What is to be looked at again, once cases are tried.
+    pub(crate) waiting: Waiting,
+    pub(crate) trail: Trail,
+    pub(crate) choices: Choices,
+    pub(crate) clauses: Clauses,
+    pub(crate) clocks: Clocks,
+    /// For each operation, from which place on the operations of each process come after it: once cases are tried.
+    pub(crate) afters: Option<Clocks>,
+    pub(crate) rises: Rises,
     /// What has new clocks to bring to those after it.
-    flags: Flags,
+    pub(crate) flags: Flags,
     /// The step that closed a cycle, if one did.
     pub(crate) closing: Option<u32>,
     pub(crate) fuel: u64,
@@ -53,6 +67,7 @@ impl Search {
         let (procs, ops) = (numbering.procs()?, numbering.len()?);
         let writes = Writes::new(alloc, CELLS, &numbering, &values)?;
         let writers = Writers::new(alloc, &numbering, &values)?;
+        let readers = Readers::new(alloc, &numbering, &values)?;
         let clocks = Clocks::new(alloc, &numbering)?;
         Some(Search {
             alloc,
@@ -60,12 +75,17 @@ impl Search {
             values,
             writes,
             writers,
+            readers,
             steps: Steps::new(alloc, ops)?,
             procs,
             ops,
-            sources: vec![in alloc; None; ops as usize].ok()?,
-            firsts: vec![in alloc; None; CELLS as usize].ok()?,
+            settled: Settled::new(alloc, ops, CELLS)?,
+            waiting: Waiting::new(alloc, ops)?,
+            trail: Trail::new(alloc),
+            choices: Choices::new(alloc, ops)?,
+            clauses: Clauses::new(alloc, ops)?,
             clocks,
+            afters: None,
             rises: Rises::new(alloc, procs)?,
             flags: Flags::new(alloc, ops)?,
             closing: None,
@@ -97,6 +117,13 @@ impl Search {
 
     /// From which place on the operations of a process come after `x`.
     pub(crate) fn after(&self, x: u32, process: u32) -> Option<u32> {
+        match &self.afters {
+            Some(afters) => afters.get(x, process),
+            None => self.search_after(x, process),
+        }
+    }
+
+    fn search_after(&self, x: u32, process: u32) -> Option<u32> {
         let (mut low, mut high) = (0, self.numbering.count(process)?);
         for _ in 0..high {
             if low >= high {
@@ -132,7 +159,7 @@ impl Search {
             let spot = self.numbering.spot(x)?;
             let id = self.rises.first(spot, process, at.checked_add(1)?)?;
             path.push(id).ok()?;
-            x = self.steps.get(id)?.from;
+            x = self.steps.get(id)?.claim.from;
         }
         None
     }
@@ -149,12 +176,14 @@ impl Search {
     }
 
     /// Draws an order, with all that it brings to the clocks. Gives its number.
-    pub(crate) fn draw(&mut self, from: u32, to: u32, why: Why, needs: &[Need]) -> Option<u32> {
-        let id = self.steps.add(from, to, why, needs)?;
+    pub(crate) fn draw(&mut self, claim: Claim, why: Why, needs: &[Need]) -> Option<u32> {
+        let Claim { from, to, .. } = claim;
+        let id = self.steps.add(claim, why, self.trail.level(), needs)?;
         if from == to || self.is_before(to, from)? {
             self.closing = Some(id);
             return Some(id);
         }
+        self.touch_before(from, to)?;
         if self.absorb(to, from, Some(id))? {
             self.flags.add(to)?;
             self.spread()?;
@@ -184,7 +213,7 @@ impl Search {
             let Some(id) = leaving else {
                 break;
             };
-            let to = self.steps.get(id)?.to;
+            let to = self.steps.get(id)?.claim.to;
             self.follow(to, x, leaving)?;
             leaving = self.steps.older(id);
         }
@@ -201,22 +230,34 @@ impl Search {
     // Puts `y` after `x` and all that comes before it, by this step, or by the order of their process. Whether something of
     // that is new.
     fn absorb(&mut self, y: u32, x: u32, by: Option<u32>) -> Option<bool> {
+        let (spot, (owner, at)) = (self.numbering.spot(y)?, self.numbering.spot(x)?);
         let mut is_new = false;
         for process in 0..self.procs {
-            let count = self.up_to(x, process)?;
+            let count = if process == owner {
+                at.checked_add(1)?
+            } else {
+                self.before(x, process)?
+            };
             if self.before(y, process)? < count {
-                self.raise(y, process, count, by)?;
+                self.clocks.set(y, process, count)?;
+                self.raise(spot, process, count, by)?;
                 is_new = true;
             }
+        }
+        if is_new {
+            self.waiting.raised(y)?;
         }
         Some(is_new)
     }
 
-    fn raise(&mut self, y: u32, process: u32, count: u32, by: Option<u32>) -> Option<()> {
+    // So many of a process come before this place of its owner, by this step or by the order of its process.
+    fn raise(&mut self, spot: (u32, u32), process: u32, count: u32, by: Option<u32>) -> Option<()> {
         if let Some(id) = by {
-            let spot = self.numbering.spot(y)?;
             self.rises.add(spot, process, count, id)?;
         }
-        self.clocks.set(y, process, count)
+        match &mut self.afters {
+            Some(afters) => lower(afters, &self.numbering, spot, process, count),
+            None => Some(()),
+        }
     }
 }

@@ -1,10 +1,11 @@
 //! What was drawn, step by step.
+use crate::claims::Claim;
 use std::alloc::Global;
 use std::ops::Range;
 
 /// By which rule a step was drawn: the read `to` sees the write `from`; it sees first contents; what is left for the read
 /// `to` comes after `from`; what is left for the read `from` comes before the write `to`; a read that sees the write `to`
-/// comes after the write `from`.
+/// comes after the write `from`; it is supposed; or all of the clause of this number is false but that.
 #[derive(Clone, Copy)]
 pub(crate) enum Why {
     Source,
@@ -12,6 +13,8 @@ pub(crate) enum Why {
     AfterAll,
     BeforeAll,
     AfterSource,
+    Assumed,
+    Clause(u32),
 }
 
 /// What a step follows from: all of it was known before.
@@ -27,12 +30,12 @@ pub(crate) enum Need {
     Hidden { write: u32, by: u32, read: u32 },
 }
 
-/// The one operation stands before the other in every legal schedule; or a read, which is both, sees first contents.
+/// What was drawn, by which rule, and under how many suppositions.
 #[derive(Clone, Copy)]
 pub(crate) struct Step {
-    pub(crate) from: u32,
-    pub(crate) to: u32,
+    pub(crate) claim: Claim,
     pub(crate) why: Why,
+    pub(crate) level: u32,
     needs_end: u32,
 }
 
@@ -77,7 +80,13 @@ impl Steps {
     }
 
     /// Adds one, and gives its number.
-    pub(crate) fn add(&mut self, from: u32, to: u32, why: Why, needs: &[Need]) -> Option<u32> {
+    pub(crate) fn add(
+        &mut self,
+        claim: Claim,
+        why: Why,
+        level: u32,
+        needs: &[Need],
+    ) -> Option<u32> {
         let id = self.len()?;
         for need in needs {
             self.needs.push(*need).ok()?;
@@ -85,23 +94,38 @@ impl Steps {
         let needs_end = u32::try_from(self.needs.len()).ok()?;
         self.list
             .push(Step {
-                from,
-                to,
+                claim,
                 why,
+                level,
                 needs_end,
             })
             .ok()?;
-        self.chain(id, from, to)?;
+        self.chain(id, claim)?;
         Some(id)
     }
 
-    fn chain(&mut self, id: u32, from: u32, to: u32) -> Option<()> {
-        let newest = self.newest.get_mut(from as usize)?;
+    fn chain(&mut self, id: u32, claim: Claim) -> Option<()> {
+        let newest = self.newest.get_mut(claim.from as usize)?;
         self.older.push(*newest).ok()?;
-        if from != to {
+        if claim.is_order() {
             *newest = Some(id);
         }
         Some(())
+    }
+
+    /// Takes the newest back.
+    pub(crate) fn take_back(&mut self) -> Option<Step> {
+        let step = self.list.pop()?;
+        let older = self.older.pop()?;
+        if step.claim.is_order() {
+            *self.newest.get_mut(step.claim.from as usize)? = older;
+        }
+        let kept = match self.list.last() {
+            Some(last) => last.needs_end as usize,
+            None => 0,
+        };
+        self.needs.truncate(kept);
+        Some(step)
     }
 
     /// The newest that leads on from an operation, if there is one.

@@ -1,16 +1,28 @@
 //! What a read may see, by what is known of the writes of the value that it found.
+use crate::claims::Claim;
 use crate::search::Search;
 
 /// Of one process: the last of those writes that is hidden from the read, the first and the last that are left, and the first
-/// one that comes after the read.
+/// one that comes after the read; and of those at both ends that a step rules out, where they stand in the list of the value.
 #[derive(Clone, Copy)]
 pub(crate) struct Share {
     pub(crate) hidden: Option<u32>,
     pub(crate) left: Option<(u32, u32)>,
     pub(crate) later: Option<u32>,
+    pub(crate) unseen: [(usize, usize); 2],
 }
 
-fn part(list: &[u32], from: usize, to: usize) -> &[u32] {
+/// Where writes of one process stand in the list of a value: those from `begin` to `end`, of which those below `low` are
+/// hidden, and those from `high` on come after the read.
+#[derive(Clone, Copy)]
+struct Bounds {
+    begin: usize,
+    low: usize,
+    high: usize,
+    end: usize,
+}
+
+pub(crate) fn part(list: &[u32], from: usize, to: usize) -> &[u32] {
     match list.get(from..to) {
         Some(part) => part,
         None => &[],
@@ -18,13 +30,14 @@ fn part(list: &[u32], from: usize, to: usize) -> &[u32] {
 }
 
 impl Share {
-    // Of the writes between two places of this list, where those below `low` are hidden, and those from `high` on come later.
-    fn of(list: &[u32], begin: usize, low: usize, high: usize, end: usize) -> Share {
-        let left = part(list, low, high);
+    // Of the writes within these bounds, where between `from` and `to` are left.
+    fn of(list: &[u32], bounds: Bounds, from: usize, to: usize) -> Share {
+        let left = part(list, from, to);
         Share {
-            hidden: part(list, begin, low).last().copied(),
+            hidden: part(list, bounds.begin, bounds.low).last().copied(),
             left: left.first().copied().zip(left.last().copied()),
-            later: part(list, high, end).first().copied(),
+            later: part(list, bounds.high, bounds.end).first().copied(),
+            unseen: [(bounds.low, from), (to, bounds.high)],
         }
     }
 }
@@ -91,10 +104,30 @@ impl Search {
     fn is_first_left(&self, view: &View) -> Option<bool> {
         let given = match self.values.first(view.cell)? {
             Some(first) => Some(first),
-            None => self.firsts.get(view.cell as usize)?.map(|(value, _)| value),
+            None => self.settled.first(view.cell)?.map(|(value, _)| value),
         };
         let is_other = given.is_some_and(|first| first != view.value);
-        Some(!is_other && view.last_writes.iter().all(|last| last.is_none()))
+        let is_unseen = self.unseen_first(view.read)?.is_some();
+        Some(!is_other && !is_unseen && view.last_writes.iter().all(|last| last.is_none()))
+    }
+
+    /// The step that tells that the read doesn't see first contents, if there is one.
+    pub(crate) fn unseen_first(&self, read: u32) -> Option<Option<u32>> {
+        self.step_unseen(Claim::sees_first(read).negation())
+    }
+
+    /// The step that tells that the read doesn't see this write, if there is one.
+    pub(crate) fn unseen(&self, write: u32, read: u32) -> Option<Option<u32>> {
+        self.step_unseen(Claim::sees(write, read).negation())
+    }
+
+    fn step_unseen(&self, claim: Claim) -> Option<Option<u32>> {
+        for id in self.settled.unseen(claim.to)? {
+            if self.steps.get(*id)?.claim == claim {
+                return Some(Some(*id));
+            }
+        }
+        Some(None)
     }
 
     fn add_shares(&self, view: &mut View) -> Option<()> {
@@ -118,16 +151,54 @@ impl Search {
             (self.after(view.read, process)?, count)
         };
         let hidden = self.hidden_before(view, process)?;
-        let writers = self.writers.of(view.value)?;
-        let begin = self.writers.count(view.value, start)?;
-        let low = self.writers.count(view.value, start.checked_add(hidden)?)?;
-        let high = self.writers.count(view.value, start.checked_add(later)?)?;
-        let end = self.writers.count(view.value, start.checked_add(end)?)?;
-        if begin < end {
-            let share = Share::of(writers, begin, low, high, end);
+        let bounds = Bounds {
+            begin: self.writers.count(view.value, start)?,
+            low: self.writers.count(view.value, start.checked_add(hidden)?)?,
+            high: self.writers.count(view.value, start.checked_add(later)?)?,
+            end: self.writers.count(view.value, start.checked_add(end)?)?,
+        };
+        if bounds.begin < bounds.end {
+            let share = self.share(view, bounds)?;
             view.shares.push(share).ok()?;
         }
         Some(())
+    }
+
+    // What is left within these bounds, but for what steps rule out at both ends.
+    fn share(&self, view: &View, bounds: Bounds) -> Option<Share> {
+        let writers = self.writers.of(view.value)?;
+        let (mut from, mut to) = (bounds.low, bounds.high);
+        if !self.settled.unseen(view.read)?.is_empty() {
+            from = self.skip(view, from, to)?;
+            to = self.skip_back(view, from, to)?;
+        }
+        Some(Share::of(writers, bounds, from, to))
+    }
+
+    // From where on the first write isn't ruled out by a step.
+    fn skip(&self, view: &View, from: usize, to: usize) -> Option<usize> {
+        let writers = self.writers.of(view.value)?;
+        for at in from..to {
+            if self.unseen(*writers.get(at)?, view.read)?.is_none() {
+                return Some(at);
+            }
+        }
+        Some(to)
+    }
+
+    // Up to where the last one isn't.
+    fn skip_back(&self, view: &View, from: usize, to: usize) -> Option<usize> {
+        let writers = self.writers.of(view.value)?;
+        for back in from..to {
+            let end = to.checked_sub(back.checked_sub(from)?)?;
+            if self
+                .unseen(*writers.get(end.checked_sub(1)?)?, view.read)?
+                .is_none()
+            {
+                return Some(end);
+            }
+        }
+        Some(from)
     }
 
     // How many operations of a process come before some write of the cell that comes before the read.

@@ -100,6 +100,7 @@ const FOUND: &str = "
     two values of an open cell: 0Ro1 1Ro2 => found
     two sources after one write: 0Wy1 1Ry1 1Wx1 2Ry1 2Wx1 3Rx1 3Ry0 => found
     two sources before one write: 0Wx1 0Wy1 1Wx1 1Wz1 2Ry1 2Rz1 2Wx2 2Wy2 3Ry2 3Rx1 => found
+    either of two writes is the last: 0Wx2 0Wx2 0Rx1 1Wx1 1Wx1 1Rx2 => found
     message passing: 0Wx1 0Wy1 1Ry1 1Rx1 => none
     nothing: => none
 ";

@@ -1,0 +1,62 @@
+//! Clocks backward.
+use crate::search::Search;
+use scm_clocks::{Clocks, Numbering};
+use std::alloc::Global;
+
+// By the order of each process alone.
+fn afters_of(alloc: Global, numbering: &Numbering) -> Option<Clocks> {
+    let mut afters = Clocks::new(alloc, numbering)?;
+    let procs = numbering.procs()?;
+    for x in 0..numbering.len()? {
+        let (owner, at) = numbering.spot(x)?;
+        for process in 0..procs {
+            afters.set(x, process, numbering.count(process)?)?;
+        }
+        afters.set(x, owner, at.checked_add(1)?)?;
+    }
+    Some(afters)
+}
+
+/// The first so many operations of a process come before this place of its owner: the last of them of which that is known
+/// tells it of those before.
+pub(crate) fn lower(
+    afters: &mut Clocks,
+    numbering: &Numbering,
+    spot: (u32, u32),
+    process: u32,
+    count: u32,
+) -> Option<()> {
+    let (owner, place) = spot;
+    for back in 1..=count {
+        let x = numbering.number(process, count.checked_sub(back)?)?;
+        if afters.get(x, owner)? <= place {
+            break;
+        }
+        afters.set(x, owner, place)?;
+    }
+    Some(())
+}
+
+impl Search {
+    /// From now on it is known what comes after each operation, and not only what comes before it; and changes can be taken
+    /// back.
+    pub(crate) fn look_back(&mut self) -> Option<()> {
+        let mut afters = afters_of(self.alloc, &self.numbering)?;
+        for x in 0..self.ops {
+            let spot = self.numbering.spot(x)?;
+            for process in 0..self.procs {
+                lower(
+                    &mut afters,
+                    &self.numbering,
+                    spot,
+                    process,
+                    self.before(x, process)?,
+                )?;
+            }
+        }
+        afters.record();
+        self.afters = Some(afters);
+        self.clocks.record();
+        Some(())
+    }
+}

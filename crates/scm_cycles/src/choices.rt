@@ -1,0 +1,84 @@
+//! What case is tried next.
+use crate::claims::{Claim, Kind};
+use std::alloc::Global;
+
+/// How much a contradiction adds to what it goes through, at first.
+const FIRST_RISE: u64 = 1 << 20;
+
+/// From this on all is made smaller.
+const MOST_RISE: u64 = 1 << 40;
+
+/// By how much it is made smaller.
+const SCALE: u32 = 20;
+
+/// For each operation how much contradictions went through it of late, what was seen last, and how much is left for it to see.
+#[derive(Drop)]
+pub(crate) struct Choices {
+    activities: Vec<u64>,
+    last_seen: Vec<Option<Claim>>,
+    lefts: Vec<u32>,
+    rise: u64,
+}
+
+impl Choices {
+    pub(crate) fn new(alloc: Global, ops: u32) -> Option<Choices> {
+        Some(Choices {
+            activities: vec![in alloc; 0; ops as usize].ok()?,
+            last_seen: vec![in alloc; None; ops as usize].ok()?,
+            lefts: vec![in alloc; 0; ops as usize].ok()?,
+            rise: FIRST_RISE,
+        })
+    }
+
+    pub(crate) fn left(&self, read: u32) -> Option<u32> {
+        self.lefts.get(read as usize).copied()
+    }
+
+    pub(crate) fn set_left(&mut self, read: u32, left: u32) -> Option<()> {
+        *self.lefts.get_mut(read as usize)? = left;
+        Some(())
+    }
+
+    pub(crate) fn last_seen(&self, read: u32) -> Option<Option<Claim>> {
+        self.last_seen.get(read as usize).copied()
+    }
+
+    pub(crate) fn see(&mut self, claim: Claim) -> Option<()> {
+        *self.last_seen.get_mut(claim.to as usize)? = Some(claim);
+        Some(())
+    }
+
+    /// A contradiction goes through this.
+    pub(crate) fn bump(&mut self, claim: Claim) -> Option<()> {
+        self.raise(claim.to)?;
+        self.raise(match claim.kind {
+            Kind::Before => claim.from,
+            _ => claim.to,
+        })
+    }
+
+    fn raise(&mut self, x: u32) -> Option<()> {
+        let rise = self.rise;
+        let activity = self.activities.get_mut(x as usize)?;
+        *activity = activity.saturating_add(rise);
+        Some(())
+    }
+
+    /// What comes later counts for more.
+    pub(crate) fn age(&mut self) {
+        self.rise = self.rise.saturating_add(self.rise / 19);
+        if self.rise > MOST_RISE {
+            self.rise >>= SCALE;
+            for activity in self.activities.iter_mut() {
+                *activity >>= SCALE;
+            }
+        }
+    }
+
+    /// The activity of an operation, where 1,024 is one contradiction of late; never 0.
+    pub(crate) fn share(&self, x: u32) -> Option<u64> {
+        let activity = *self.activities.get(x as usize)?;
+        let unit = (self.rise >> 10).max(1);
+        Some((activity / unit).saturating_add(1))
+    }
+}

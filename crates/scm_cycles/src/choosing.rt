@@ -1,0 +1,191 @@
+//! Which case is tried next.
+use crate::claims::Claim;
+use crate::search::Search;
+use crate::views::{View, part};
+
+/// What a place's share of its process is counted in.
+const WHOLE: u64 = 1 << 20;
+
+/// A claim, and how much speaks for it.
+#[derive(Clone, Copy)]
+struct Choice {
+    claim: Claim,
+    weight: u64,
+}
+
+// Of two, the one for which more speaks.
+fn better(best: Option<Choice>, claim: Claim, weight: u64) -> Option<Choice> {
+    match best {
+        Some(choice) if choice.weight >= weight => best,
+        _ => Some(Choice { claim, weight }),
+    }
+}
+
+impl Search {
+    /// Of what is left for a read to see, as many as a view tells.
+    pub(crate) fn note_left(&mut self, view: &View) -> Option<()> {
+        let left = self.left_in(view)?;
+        let old = self.choices.left(view.read)?;
+        if left != old {
+            self.trail.note_left(view.read, old)?;
+            self.choices.set_left(view.read, left)?;
+        }
+        Some(())
+    }
+
+    fn left_in(&self, view: &View) -> Option<u32> {
+        let mut left = u32::from(view.is_first_left);
+        for (first, last) in view.shares.iter().filter_map(|share| share.left) {
+            let begin = self.writers.count(view.value, first)?;
+            let end = self.writers.count(view.value, last)?.checked_add(1)?;
+            let count = u32::try_from(end.checked_sub(begin)?).ok()?;
+            left = left.checked_add(count)?;
+        }
+        Some(left)
+    }
+
+    /// The case that is tried next; `None` where none is left, and the trace has a schedule.
+    pub(crate) fn choose(&mut self, restarts: u64) -> Option<Claim> {
+        self.burn(self.ops)?;
+        match self.open_read(restarts)? {
+            Some(read) => self.choose_source(read),
+            None => self.choose_order(),
+        }
+    }
+
+    // The read by activity over how much is left, the latter by another power after each restart.
+    fn open_read(&self, restarts: u64) -> Option<Option<u32>> {
+        let mut best: Option<(u32, u64)> = None;
+        for read in 0..self.ops {
+            let left = self.choices.left(read)?;
+            if left < 2 || self.settled.source(read)?.is_some() {
+                continue;
+            }
+            let weight = self.weight(read, left, restarts)?;
+            if best.is_none_or(|(_, most)| weight > most) {
+                best = Some((read, weight));
+            }
+        }
+        Some(best.map(|(read, _)| read))
+    }
+
+    fn weight(&self, read: u32, left: u32, restarts: u64) -> Option<u64> {
+        let part = u64::from(left).saturating_mul(2).saturating_sub(1).max(1);
+        let over = match restarts % 3 {
+            1 => part.saturating_mul(part),
+            2 => part,
+            _ => part.saturating_mul(part).saturating_mul(part),
+        };
+        let share = self.choices.share(read)?.saturating_mul(1 << 32);
+        Some(share / over.max(1))
+    }
+
+    // Which share of its process comes before an operation.
+    fn progress(&self, x: u32) -> Option<u64> {
+        let (process, at) = self.numbering.spot(x)?;
+        let count = u64::from(self.numbering.count(process)?).max(1);
+        Some(u64::from(at).saturating_mul(WHOLE) / count)
+    }
+
+    // What was seen last, if it is left, else what is nearest.
+    fn choose_source(&self, read: u32) -> Option<Claim> {
+        if let Some(claim) = self.choices.last_seen(read)?
+            && self.truth(claim)?.is_none()
+        {
+            return Some(claim);
+        }
+        let (cell, value) = (self.numbering.cell(read)?, self.values.found(read)?);
+        let view = self.view(read, cell, value)?;
+        let mut best = None;
+        if view.is_first_left {
+            let far = self.progress(read)?;
+            best = better(best, Claim::sees_first(read), u64::MAX.saturating_sub(far));
+        }
+        for (first, last) in view.shares.iter().filter_map(|share| share.left) {
+            best = self.nearest(best, &view, first, last)?;
+        }
+        best.map(|choice| choice.claim)
+    }
+
+    fn nearest(
+        &self,
+        best: Option<Choice>,
+        view: &View,
+        first: u32,
+        last: u32,
+    ) -> Option<Option<Choice>> {
+        let from = self.writers.count(view.value, first)?;
+        let to = self.writers.count(view.value, last)?.checked_add(1)?;
+        let here = self.progress(view.read)?;
+        let mut best = best;
+        for write in part(self.writers.of(view.value)?, from, to) {
+            if self.unseen(*write, view.read)?.is_some() {
+                continue;
+            }
+            let there = self.progress(*write)?;
+            let far = if there > here {
+                there.saturating_sub(here).saturating_mul(3)
+            } else {
+                here.saturating_sub(there)
+            };
+            let claim = Claim::sees(*write, view.read);
+            best = better(best, claim, u64::MAX.saturating_sub(far));
+        }
+        Some(best)
+    }
+
+    // Of a write whose order to a read and what that sees isn't known.
+    fn choose_order(&self) -> Option<Claim> {
+        let mut best = None;
+        for read in 0..self.ops {
+            if let Some(source) = self.settled.source(read)? {
+                let claim = self.steps.get(source)?.claim;
+                if claim.is_order() {
+                    best = self.open_order(best, claim)?;
+                }
+            }
+        }
+        best.map(|choice| choice.claim)
+    }
+
+    fn open_order(&self, best: Option<Choice>, seen: Claim) -> Option<Option<Choice>> {
+        let mut best = best;
+        for process in 0..self.procs {
+            if let Some(x) = self.between(seen, process)? {
+                let weight = self.choices.share(seen.to)?.max(self.choices.share(x)?);
+                let is_early = self.progress(x)? < self.progress(seen.from)?;
+                let claim = if is_early {
+                    Claim::before(x, seen.from)
+                } else {
+                    Claim::before(seen.to, x)
+                };
+                best = better(best, claim, weight);
+            }
+        }
+        Some(best)
+    }
+
+    // The first write of a process to the cell that is known neither to come before the source nor after the read.
+    fn between(&self, seen: Claim, process: u32) -> Option<Option<u32>> {
+        let (owner, _) = self.numbering.spot(seen.from)?;
+        if owner == process {
+            return Some(None);
+        }
+        let cell = self.numbering.cell(seen.to)?;
+        let place = self.before(seen.from, process)?;
+        let mut next = self.write_at(process, cell, place);
+        if next == Some(seen.to) {
+            let (_, at) = self.numbering.spot(seen.to)?;
+            next = self.write_at(process, cell, at.checked_add(1)?);
+        }
+        match next {
+            Some(x) if !self.is_before(seen.to, x)? => Some(Some(x)),
+            _ => Some(None),
+        }
+    }
+
+    fn write_at(&self, process: u32, cell: u32, place: u32) -> Option<u32> {
+        let at = self.writes.from(process, cell, place)?;
+        self.numbering.number(process, at)
+    }
+}

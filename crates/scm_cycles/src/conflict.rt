@@ -1,0 +1,193 @@
+//! Why suppositions contradict each other.
+use crate::claims::Claim;
+use crate::pieces::Piece;
+use crate::search::Search;
+use crate::steps::{Need, Why};
+use std::alloc::Global;
+
+/// That the one operation comes before the other, known since this level.
+#[derive(Clone, Copy)]
+pub(crate) struct Order {
+    pub(crate) from: u32,
+    pub(crate) to: u32,
+    pub(crate) level: u32,
+}
+
+/// What contradicts itself together: orders and steps of lower levels, and one step of the level of the contradiction.
+/// Without suppositions the level is 0, and nothing else is filled in.
+#[derive(Drop)]
+pub(crate) struct Conflict {
+    pub(crate) closing: u32,
+    pub(crate) level: u32,
+    pub(crate) orders: Vec<Order>,
+    pub(crate) steps: Vec<u32>,
+    is_marked: Vec<bool>,
+    open: u32,
+}
+
+impl Conflict {
+    fn new(alloc: Global, closing: u32, level: u32) -> Option<Conflict> {
+        let count = closing.checked_add(1)?;
+        Some(Conflict {
+            closing,
+            level,
+            orders: Vec::new(alloc),
+            steps: Vec::new(alloc),
+            is_marked: vec![in alloc; false; count as usize].ok()?,
+            open: 0,
+        })
+    }
+
+    // Marks a step, if it isn't yet. Whether it is new.
+    fn mark(&mut self, id: u32) -> Option<bool> {
+        let is_marked = self.is_marked.get_mut(id as usize)?;
+        let is_new = !*is_marked;
+        *is_marked = true;
+        Some(is_new)
+    }
+
+    /// Whether the step is one of those that contradict each other.
+    pub(crate) fn has(&self, id: u32) -> bool {
+        self.steps.contains(&id)
+    }
+}
+
+impl Search {
+    /// What contradicts itself by the step that closed a cycle.
+    pub(crate) fn explain(&mut self, closing: u32) -> Option<Conflict> {
+        let needs = self.closing_needs(closing)?;
+        let mut level = 0;
+        for need in &needs {
+            level = level.max(self.need_level(*need)?);
+        }
+        let mut conflict = Conflict::new(self.alloc, closing, level)?;
+        if level > 0 {
+            self.add_needs_of(&mut conflict, &needs)?;
+            self.resolve(&mut conflict)?;
+            self.prune(&mut conflict)?;
+        }
+        Some(conflict)
+    }
+
+    /// What the contradiction of a step that closed a cycle follows from. A step just before it that a clause gave is no
+    /// more than a part of it.
+    pub(crate) fn closing_needs(&self, closing: u32) -> Option<Vec<Need>> {
+        let mut needs = Vec::new(self.alloc);
+        for at in self.steps.needs(closing)? {
+            let need = self.steps.need(at)?;
+            match self.clashing(closing, need)? {
+                Some(id) => self.copy_needs(&mut needs, id)?,
+                None => needs.push(need).ok()?,
+            }
+        }
+        let Claim { from, to, .. } = self.steps.get(closing)?.claim;
+        if from != to {
+            let (from, to) = (to, from);
+            needs.push(Need::Order { from, to }).ok()?;
+        }
+        Some(needs)
+    }
+
+    fn clashing(&self, closing: u32, need: Need) -> Option<Option<u32>> {
+        let Need::Step(id) = need else {
+            return Some(None);
+        };
+        let is_part = id.checked_add(1)? == closing
+            && matches!(self.steps.get(id)?.why, Why::Clause(_));
+        Some(if is_part { Some(id) } else { None })
+    }
+
+    fn copy_needs(&self, needs: &mut Vec<Need>, id: u32) -> Option<()> {
+        for at in self.steps.needs(id)? {
+            needs.push(self.steps.need(at)?).ok()?;
+        }
+        Some(())
+    }
+
+    // Back to the first step of the level that all of the contradiction goes through.
+    fn resolve(&mut self, conflict: &mut Conflict) -> Option<()> {
+        for back in 1..=conflict.closing {
+            let id = conflict.closing.checked_sub(back)?;
+            if !*conflict.is_marked.get(id as usize)?
+                || self.steps.get(id)?.level < conflict.level
+            {
+                continue;
+            }
+            if conflict.open <= 1 {
+                conflict.steps.push(id).ok()?;
+                return Some(());
+            }
+            conflict.open = conflict.open.checked_sub(1)?;
+            let mut needs = Vec::new(self.alloc);
+            self.copy_needs(&mut needs, id)?;
+            self.add_needs_of(conflict, &needs)?;
+        }
+        None
+    }
+
+    fn add_needs_of(&mut self, conflict: &mut Conflict, needs: &[Need]) -> Option<()> {
+        for need in needs {
+            self.burn(self.procs)?;
+            if let Need::Step(id) = *need {
+                self.add_step(conflict, id)?;
+            }
+            for (from, to) in Search::orders_of(*need).into_iter().flatten() {
+                self.add_way(conflict, from, to)?;
+            }
+        }
+        Some(())
+    }
+
+    fn add_way(&mut self, conflict: &mut Conflict, from: u32, to: u32) -> Option<()> {
+        for piece in &self.pieces(from, to, conflict.level)? {
+            match *piece {
+                Piece::Step(id) => self.add_step(conflict, id)?,
+                Piece::Stretch { from, to } => self.add_order(conflict, from, to)?,
+            }
+        }
+        Some(())
+    }
+
+    fn add_step(&mut self, conflict: &mut Conflict, id: u32) -> Option<()> {
+        let step = self.steps.get(id)?;
+        if step.level == 0 || !conflict.mark(id)? {
+            return Some(());
+        }
+        self.choices.bump(step.claim)?;
+        if step.level < conflict.level {
+            conflict.steps.push(id).ok()
+        } else {
+            conflict.open = conflict.open.checked_add(1)?;
+            Some(())
+        }
+    }
+
+    fn add_order(&mut self, conflict: &mut Conflict, from: u32, to: u32) -> Option<()> {
+        let level = self.order_level(from, to)?;
+        if level == 0 || self.is_covered(conflict, from, to)? {
+            return Some(());
+        }
+        self.bump_way(from, to)?;
+        conflict.orders.push(Order { from, to, level }).ok()
+    }
+
+    fn bump_way(&mut self, from: u32, to: u32) -> Option<()> {
+        for id in &self.path(from, to)? {
+            let step = self.steps.get(*id)?;
+            if step.level > 0 {
+                self.choices.bump(step.claim)?;
+            }
+        }
+        Some(())
+    }
+
+    /// Whether an order of the contradiction shows this one by the order of processes.
+    pub(crate) fn is_covered(&self, conflict: &Conflict, from: u32, to: u32) -> Option<bool> {
+        for order in &conflict.orders {
+            if self.covers((order.from, order.to), (from, to))? {
+                return Some(true);
+            }
+        }
+        Some(false)
+    }
+}

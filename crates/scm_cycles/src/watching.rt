@@ -1,0 +1,67 @@
+//! Clauses of which all but one claim is false.
+use crate::search::Search;
+
+impl Search {
+    /// Looks at the clauses that wait for a change of this operation.
+    pub(crate) fn review_all(&mut self, x: u32) -> Option<()> {
+        let mut at = 0usize;
+        for _ in 0..self.clauses.count(x)? {
+            if self.closing.is_some() {
+                break;
+            }
+            let k = self.clauses.watcher(x, at)?;
+            self.burn(1)?;
+            if self.review(k, x)? {
+                self.clauses.unwatch(x, at)?;
+            } else {
+                at = at.checked_add(1)?;
+            }
+        }
+        Some(())
+    }
+
+    // Whether the clause waits for another operation in the place of this one from now on.
+    fn review(&mut self, k: u32, x: u32) -> Option<bool> {
+        for (at, other) in [(0, 1), (1, 0)] {
+            let claim = self.clauses.claim(k, at)?;
+            if claim.watched() != x || !self.is_false(claim)? {
+                continue;
+            }
+            let left = self.clauses.claim(k, other)?;
+            if self.truth(left)? == Some(true) {
+                return Some(false);
+            }
+            let Some(new) = self.other_open(k)? else {
+                self.infer(k, left)?;
+                return Some(false);
+            };
+            self.clauses.exchange(k, at, new)?;
+            return self.rewatch(k, at, x, left.watched());
+        }
+        Some(false)
+    }
+
+    // A claim that isn't watched and isn't false.
+    fn other_open(&mut self, k: u32) -> Option<Option<usize>> {
+        let count = self.clauses.claims(k)?.len();
+        self.burn(u32::try_from(count).ok()?)?;
+        for at in 2..count {
+            if !self.is_false(self.clauses.claim(k, at)?)? {
+                return Some(Some(at));
+            }
+        }
+        Some(None)
+    }
+
+    // The claim at this place is watched now. Whether the clause doesn't wait for `x` any more.
+    fn rewatch(&mut self, k: u32, at: usize, x: u32, other: u32) -> Option<bool> {
+        let watched = self.clauses.claim(k, at)?.watched();
+        if watched == x {
+            return Some(false);
+        }
+        if watched != other {
+            self.clauses.watch(watched, k)?;
+        }
+        Some(other != x)
+    }
+}
