@@ -2,6 +2,7 @@
 
 use crate::asked::{Asked, cells};
 use crate::plain_list::{PlainList, agree};
+use crate::reach::counted;
 use crate::traces::{read, swap, write};
 use scm_frontier::{Layout, Word};
 use scm_reach::Settled;
@@ -204,6 +205,27 @@ fn grow_and_go_back(rt: &impl Abort, alloc: Global, growth: Growth) {
 fn answers_stay_on_the_way_back(rt: HostRuntime) {
     for growth in [SMALL, LARGE] {
         grow_and_go_back(&rt, rt.alloc(), growth);
+    }
+}
+
+/// Eight situations have four different contents in all forms.
+fn keep_contents_once(rt: &impl Abort, alloc: Global, growth: Growth) {
+    let mut trace = Growing::new(rt, alloc, growth);
+    trace.report(rt, "0Wx1 0Ry0 1Wy1 1Rx0");
+    trace.ask(rt, [2, 2]);
+    for to in growth.to {
+        assert!(rt; counted(trace.asked.reach()) == [8, 4]);
+        trace.grow(rt, to);
+    }
+    assert!(rt; counted(trace.asked.reach()) == [8, 4]);
+    trace.go_back(rt, [0, 0]);
+    assert!(rt; counted(trace.asked.reach()) == [1, 1]);
+}
+
+#[test]
+fn contents_are_kept_once_in_all_forms(rt: HostRuntime) {
+    for growth in [SMALL, LARGE] {
+        keep_contents_once(&rt, rt.alloc(), growth);
     }
 }
 
