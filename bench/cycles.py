@@ -105,17 +105,46 @@ def large(program, name, procs, length, samples, values=0):
     show(name, made, lengths, times)
 
 
+def with_a_load_changed(rng, memory, values):
+    """Has one of the memory's loads give another value than it did."""
+    loads = [(p, k) for p, reports in enumerate(memory.reports) for k, report in enumerate(reports) if report.startswith("lw")]
+    process, k = rng.choice(loads)
+    word, cell, old = memory.reports[process][k].split()
+    value = rng.choice([it for it in range(values) if it != int(old)])
+    memory.reports[process][k] = f"{word} {cell} {value}"
+
+
+def changed(program, name, procs, length, cells, values, samples):
+    """Of runs with one load changed, those for which no schedule is found: how many are refuted, and the time of that."""
+    rng = random.Random(name)
+    made, lengths, times = 0, [], []
+    for _ in range(samples):
+        memory, _ = traces.at_random(rng, procs, length, cells, 0.5, 2, values)
+        with_a_load_changed(rng, memory, values)
+        lines = list(traces.script(memory, cells))
+        if schedules.run(program, lines)[0][-1].startswith(b"a consistent"):
+            continue
+        _, reporting = schedules.run(program, lines[:-1])
+        replies, taken = schedules.run(program, [*lines[:-1], "a cycle t"])
+        made += 1
+        times.append(max(0.0, taken - reporting))
+        found = refuted(replies[-1])
+        if found:
+            lengths.append(found)
+    show(name, made, lengths, times)
+
+
 def show(name, made, lengths, times):
     median = sorted(lengths)[len(lengths) // 2] if lengths else "-"
     mean = f"{sum(times) / len(times):.3f}" if times else "-"
     most = f"{max(times):.3f}" if times else "-"
-    print(f"{name:<32} {len(lengths):>5} of {made:<5} {median!s:>8} {mean:>9} {most:>9}", flush=True)
+    print(f"{name:<40} {len(lengths):>5} of {made:<5} {median!s:>8} {mean:>9} {most:>9}", flush=True)
 
 
 def main():
     program = sys.argv[1]
     samples = int(sys.argv[2]) if len(sys.argv) > 2 else 10
-    print(f"{'inconsistent traces':<32} {'refuted':>14} {'median':>8} {'mean s':>9} {'most s':>9}")
+    print(f"{'inconsistent traces':<40} {'refuted':>14} {'median':>8} {'mean s':>9} {'most s':>9}")
     small(program, "small, unique values", 0, samples)
     small(program, "small, three values", 3, samples)
     small(program, "small, two values", 2, samples)
@@ -123,6 +152,8 @@ def main():
     large(program, "8 x 100, unique values", 8, 100, samples)
     large(program, "8 x 1000, unique values", 8, 1_000, samples)
     large(program, "16 x 1000, unique values", 16, 1_000, max(1, samples // 3))
+    for procs, length, cells, values in [(4, 200, 4, 8), (4, 200, 4, 16), (8, 200, 8, 8), (8, 200, 8, 16), (8, 1_000, 16, 32)]:
+        changed(program, f"{procs} x {length}, {values} values, a load changed", procs, length, cells, values, samples)
 
 
 if __name__ == "__main__":
