@@ -50,7 +50,7 @@ impl Traces {
             if self
                 .traces
                 .get(name)
-                .is_some_and(|trace| trace.is_for_tasks() && trace.offers_new())
+                .is_some_and(|trace| trace.offers_small_new())
             {
                 return Some(*name);
             }
@@ -67,7 +67,7 @@ impl Traces {
         let Some(trace) = self.traces.get(&name) else {
             return false;
         };
-        trace.is_for_tasks() && (again || trace.offers_new())
+        trace.offers_small_new() || again && trace.is_for_tasks()
     }
 
     /// The first trace with operations to be looked at that weren't handed out, and room in its budget.
