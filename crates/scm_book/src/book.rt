@@ -109,7 +109,7 @@ impl Book {
 
     /// Takes at most `n` tasks for workers, all of one trace: at least one where `n` isn't 0 and some trace has a next
     /// operation that is still to be looked at and room in its budget. A trace with such operations that weren't handed out
-    /// comes first. Neither machine nor journal changes. Where memory is refused nothing is handed out.
+    /// comes first, among these one with few situations. Neither machine nor journal changes. Where memory is refused nothing is handed out.
     pub fn take(&mut self, n: usize) -> Result<Vec<Task>, NoMemory>
         ensures taken { MatchResult result (λ tasks. IsTaking self.old n (Some tasks.items) self.new) (λ _. IsTaking self.old n None self.new) }
         ensures legal { IsLegalBook self.new }
@@ -124,6 +124,12 @@ impl Book {
         ensures { (result ≡ false) ↔ OffersNothingNew self.now.machine self.now.sets }
     {
         self.traces.has_new_tasks()
+    }
+
+    /// Whether the next tasks that `take` gives are for workers: of a trace with few situations, whose set isn't lent; larger
+    /// sets are lent. Where tasks may not come `again`, whether some of them weren't handed out. Nothing rests on it.
+    pub fn has_small_tasks(&self, again: bool) -> bool {
+        self.traces.has_small_tasks(again)
     }
 
     /// Takes outcomes back, whatever they are: late, repeated, of a trace that was returned, closed or opened again since.
@@ -151,8 +157,8 @@ impl Book {
         }
     }
 
-    /// The set of a trace, to be searched with no book at hand for what questions will want, as the question whether the trace
-    /// is consistent; the start alone stays in its place. `None`, with everything as it was, where no trace wants it, where the
+    /// The set of a trace with many situations, to be searched with no book at hand for what questions will want, as the question
+    /// whether the trace is consistent; the start alone stays in its place. `None`, with everything as it was, where no trace wants it, where the
     /// first one that might turns out to have a schedule or a settled set, or memory is refused: `may_want_work` tells whether to
     /// try again. Neither machine nor journal changes.
     pub fn lend_work(&mut self) -> Option<Loan>
@@ -162,7 +168,8 @@ impl Book {
         self.traces.lend_work()
     }
 
-    /// Whether a trace may want work: it grew since it was looked at for work, or something was left. Nothing rests on it.
+    /// Whether a trace may want work: it may have many situations, and grew since it was looked at for work, or something was
+    /// left. Nothing rests on it.
     pub fn may_want_work(&self) -> bool {
         self.traces.may_want_work()
     }

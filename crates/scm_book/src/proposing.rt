@@ -150,7 +150,7 @@ impl Proposing<'_> {
     pub(crate) fn is_long(&self, reach: &Reach) -> bool
         requires { CanJudge self.now.sequences.now self.now.lengths.now reach.now.initials }
     {
-        if self.has_few_situations() || reach.held() >= self.limit {
+        if has_few_situations(self.lengths, self.limit) || reach.held() >= self.limit {
             return false;
         }
         if self.is_search_short(reach).unwrap_or(true) {
@@ -172,14 +172,14 @@ impl Proposing<'_> {
     {
         reach.held() < self.limit && !self.is_explained(reach) && !self.is_settled(reach)
     }
+}
 
-    /// Whether there are few situations at most, by the lengths or by the limit.
-    fn has_few_situations(&self) -> bool {
-        let mut situations = 1u64;
-        for p in 0..self.lengths.procs() {
-            let counts = u64::from(self.lengths.get(p)) + 1;
-            situations = situations.saturating_mul(counts);
-        }
-        situations.min(self.limit as u64) <= FEW_SITUATIONS
+/// Whether there are few situations at most, by the lengths or by the limit.
+pub(crate) fn has_few_situations(lengths: &Lengths, limit: usize) -> bool {
+    let mut situations = 1u64;
+    for p in 0..lengths.procs() {
+        let counts = u64::from(lengths.get(p)) + 1;
+        situations = situations.saturating_mul(counts);
     }
+    situations.min(limit as u64) <= FEW_SITUATIONS
 }

@@ -17,6 +17,7 @@ use crate::jobs::{Job, jobs_of};
 use crate::reading::LineReader;
 use crate::{Ended, Findings, Port, RunFault};
 use scm_expand::Gate;
+use scm_results::Tally;
 use scm_shared::{BookNaming, BookToken, SharedBook};
 use std::alloc::Global;
 use std::io::{Read, Write};
@@ -46,7 +47,7 @@ fn read_groups<R: Read>(
     }
 }
 
-/// Answers the lines of all groups beside workers, which end with them.
+/// Answers the lines of all groups beside workers, which end with them. Gives the tallies that they bring back.
 fn answer_jobs<B: BookNaming + Send + Sync, G: Gate + Sync, T: Threads + Wait + Sync>(
     rt: &T,
     alloc: Global,
@@ -54,12 +55,12 @@ fn answer_jobs<B: BookNaming + Send + Sync, G: Gate + Sync, T: Threads + Wait + 
     jobs: &mut Vec<Job<B>>,
     gate: &G,
     workers: usize,
-)
+) -> Vec<Tally<B>>
     requires { All (λ group. All (λ line. has_reply line.asked ≡ true) group.lines) jobs.old.items }
     ensures answered { AllAnswered jobs.old.items jobs.new.items }
     ensures each { length jobs.new.items ≡ length jobs.old.items }
 {
-    answer_beside_workers::<B, G, T>(rt, alloc, book, jobs.as_mut_slice(), gate, workers);
+    answer_beside_workers::<B, G, T>(rt, alloc, book, jobs.as_mut_slice(), gate, workers)
 }
 
 /// Runs a script over a new book with a thread for each session, while `workers` threads look for situations
@@ -111,7 +112,7 @@ pub fn run_each<
     let book = SharedBook::<B>::new(alloc, token);
     let mut jobs = jobs_of(rt, alloc, &book, groups)?;
     let (mut names, passes) = room_for(alloc, jobs.len())?;
-    answer_jobs::<B, G, T>(rt, alloc, &book, &mut jobs, gate, workers);
+    let tallies = answer_jobs::<B, G, T>(rt, alloc, &book, &mut jobs, gate, workers);
     write_groups(writer, jobs.as_slice())?;
     if reader.failed() {
         return Err(RunFault::ReadFailed);
@@ -120,7 +121,7 @@ pub fn run_each<
     *findings = found;
     let passes = gathered(jobs, &mut names, passes);
     Ok(Ended {
-        audit: book.audit(passes, Vec::new(alloc)),
+        audit: book.audit(passes, tallies),
         names,
     })
 }

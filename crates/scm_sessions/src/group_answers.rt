@@ -10,9 +10,10 @@ use crate::asking::Asked;
 use crate::jobs::Job;
 use crate::numbered::NumberedLine;
 use scm_book::Reply;
-use scm_expand::Gate;
+use scm_expand::{Gate, run_workers};
+use scm_results::Tally;
 use scm_sequences::{MOST_SESSIONS, Refusal};
-use scm_shared::{BookNaming, Pass, SharedBook, run_searchers};
+use scm_shared::{BookNaming, Pass, SharedBook};
 use std::alloc::Global;
 use std::sync::Wait;
 use std::thread;
@@ -83,18 +84,29 @@ fn answer_groups<B: BookNaming + Send + Sync, T: Threads + Wait + Sync>(
     book.stop_workers();
 }
 
-/// Answers the lines of all groups beside workers, which end with them.
+/// Answers the lines of all groups beside workers, which end with them. Gives the tallies that they bring back.
 pub(crate) fn answer_beside_workers<
     B: BookNaming + Send + Sync,
     G: Gate + Sync,
     T: Threads + Wait + Sync,
->(rt: &T, alloc: Global, book: &SharedBook<B>, groups: &mut [Job<B>], gate: &G, workers: usize)
+>(
+    rt: &T,
+    alloc: Global,
+    book: &SharedBook<B>,
+    groups: &mut [Job<B>],
+    gate: &G,
+    workers: usize,
+) -> Vec<Tally<B>>
     requires { All (λ group. All (λ line. has_reply line.asked ≡ true) group.lines) groups.old }
     ensures { AllAnswered groups.old groups.new }
 {
-    let mut work = || run_searchers(rt, alloc, book, gate, workers);
+    let mut work = || run_workers::<B, SharedBook<B>, G, T>(rt, alloc, book, gate, workers);
     let mut answer = ||
         requires { All (λ group. All (λ line. has_reply line.asked ≡ true) group.lines) groups.now }
     { answer_groups(rt, book, groups) };
-    join_mut(rt, &mut work, &mut answer);
+    let (crew, ()) = join_mut(rt, &mut work, &mut answer);
+    match crew {
+        Ok(tallies) => tallies,
+        Err(_) => Vec::new(alloc),
+    }
 }

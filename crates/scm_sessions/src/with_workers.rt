@@ -15,9 +15,10 @@ use crate::run::run_lines;
 use crate::shared_sessions::SharedSessions;
 use crate::{Ended, Findings, Port, RunFault};
 use scm_cells::Name;
-use scm_expand::Gate;
+use scm_expand::{Gate, run_workers};
+use scm_results::Tally;
 use scm_sequences::MOST_SESSIONS;
-use scm_shared::{BookNaming, BookToken, Pass, SharedBook, run_searchers};
+use scm_shared::{BookNaming, BookToken, Pass, SharedBook};
 use std::alloc::Global;
 use std::io::{Read, Write};
 use std::sync::Wait;
@@ -61,8 +62,8 @@ fn run_and_stop<'a, B: BookNaming, T: Wait, R: Read, W: Write>(
     Ok((sessions.into_parts(names), findings))
 }
 
-/// Runs the script over this book beside workers, which end with it. Gives the passes of the sessions, whose names go into
-/// `names`, in the order of their entry, with what the run found.
+/// Runs the script over this book beside workers, which end with it and whose tallies go into `tallies`. Gives the passes of the
+/// sessions, whose names go into `names`, in the order of their entry, with what the run found.
 fn run_beside_workers<
     B: BookNaming + Send + Sync,
     R: Read,
@@ -79,6 +80,7 @@ fn run_beside_workers<
     writer: &mut Port<W>,
     gate: &G,
     workers: usize,
+    tallies: &mut Vec<Tally<B>>,
 ) -> Result<(Vec<Pass<B>>, Findings), RunFault>
     requires empty { names.old.items ≡ [] }
     requires fits { MOST_SESSIONS ≤ vec_capacity names.old }
@@ -99,9 +101,12 @@ fn run_beside_workers<
     ensures writer_failed { IsErrOf result RunFault.WriteFailed ↔ (has_failed writer.new ≡ true) }
     ensures memory { IfErr result (λ fault. fault ≢ RunFault.NoMemory) }
 {
-    let mut work = || run_searchers(rt, alloc, book, gate, workers);
+    let mut work = || run_workers::<B, SharedBook<B>, G, T>(rt, alloc, book, gate, workers);
     let mut script = || run_and_stop(rt, alloc, book, names, lines, reader, writer);
-    let ((), ran) = join_mut(rt, &mut work, &mut script);
+    let (crew, ran) = join_mut(rt, &mut work, &mut script);
+    if let Ok(brought) = crew {
+        *tallies = brought;
+    }
     ran
 }
 
@@ -154,13 +159,23 @@ pub fn run_with_workers<
         return Err(RunFault::NoMemory);
     };
     let book = SharedBook::<B>::new(alloc, token);
+    let mut tallies = Vec::new(alloc);
     let ran = run_beside_workers::<B, R, W, G, T>(
-        rt, alloc, &book, &mut names, &mut lines, reader, writer, gate, workers,
+        rt,
+        alloc,
+        &book,
+        &mut names,
+        &mut lines,
+        reader,
+        writer,
+        gate,
+        workers,
+        &mut tallies,
     );
     let (passes, found) = ran?;
     *findings = found;
     Ok(Ended {
-        audit: book.audit(passes, Vec::new(alloc)),
+        audit: book.audit(passes, tallies),
         names,
     })
 }

@@ -39,8 +39,9 @@ impl Limits {
     }
 }
 
-fn is_agreed(audit: &Audit) -> bool {
-    audit.agreed && audit.totals_agreed
+/// Whether the audit agrees, with a tally of each worker and of the collector.
+fn is_agreed(audit: &Audit, workers: usize) -> bool {
+    audit.agreed && audit.totals_agreed && audit.tallies as usize == workers.saturating_add(1)
 }
 
 /// Runs a script beside so many workers.
@@ -76,7 +77,7 @@ fn run_of<T: Threads + Wait + Sync>(
         workers,
     );
     Ok(Ran {
-        ended: ended.map(|ended| is_agreed(&ended.audit)),
+        ended: ended.map(|ended| is_agreed(&ended.audit, workers)),
         written: writer.into_inner().taken,
         is_late: wire.is_late.get(),
     })

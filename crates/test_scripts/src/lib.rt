@@ -19,11 +19,11 @@ mod replays;
 #[cfg(test)]
 mod reply_texts;
 #[cfg(test)]
+mod resting;
+#[cfg(test)]
 mod runs;
 #[cfg(test)]
 mod scripts;
-#[cfg(test)]
-mod shared_searchers;
 #[cfg(test)]
 mod storm;
 #[cfg(test)]

@@ -1,4 +1,4 @@
-//! Storms: eight callers of one trace, who hinder each other, and four workers.
+//! Storms: eight callers of one trace, who hinder each other, and pause together now and then, and four workers.
 ghost use Rattle.std.specs.Prelude.{◌≡◌};
 
 use crate::each;
@@ -16,17 +16,51 @@ use std::sync::atomic::{AtomicU64, Ordering};
 use std::test::Fail;
 use std::thread;
 use std::thread::Threads;
+use std::time::Duration;
 
 const WORKERS: usize = 4;
+
+/// How often a caller looks whether the others pause too.
+const MOST_TURNS: u64 = 100_000_000;
 
 /// How often a held expansion looks whether it may go on.
 const MOST_LOOKS: u64 = 1_000;
 
-/// Holds every third expansion until three more calls were answered.
+/// After so many turns all callers pause.
+const TURNS_TO_A_PAUSE: u64 = 20;
+
+/// For so many milliseconds they do, so that workers work.
+const PAUSE_MILLIS: u64 = 8;
+
+/// Holds every third expansion until three more calls were answered, and has the callers pause together.
 #[derive(Drop)]
 struct Gusts {
     expansions: AtomicU64,
     answered: AtomicU64,
+    paused: AtomicU64,
+}
+
+impl Gusts {
+    fn new() -> Gusts {
+        Gusts {
+            expansions: AtomicU64::new(0),
+            answered: AtomicU64::new(0),
+            paused: AtomicU64::new(0),
+        }
+    }
+
+    /// Waits until all callers have come to this pause, and pauses.
+    fn pause<R: Wait>(&self, rt: &R, number: u64) {
+        self.paused.fetch_add(1, Ordering::SeqCst);
+        let all = number.saturating_mul(u64::from(CALLERS));
+        for _ in 0..MOST_TURNS {
+            if self.paused.load(Ordering::SeqCst) >= all {
+                break;
+            }
+            thread::yield_now();
+        }
+        AtomicU64::new(0).park_timeout(rt, 0, Duration::from_millis(PAUSE_MILLIS));
+    }
 }
 
 impl Gate for Gusts {
@@ -61,7 +95,10 @@ fn call_on<B: BookNaming, R: Wait + Abort>(
     mut pass: Pass<B>,
 ) -> Pass<B> {
     let mut caller = Caller::new(pass.number());
-    for _ in 0..TURNS {
+    for turn in 1..=TURNS {
+        if turn % TURNS_TO_A_PAUSE == 0 {
+            gusts.pause(rt, turn / TURNS_TO_A_PAUSE);
+        }
         let lines = caller.turn(alloc).expect(rt, "memory");
         for line in lines.lines() {
             let (_, call) = read_line(alloc, line.as_bytes()).expect(rt, "a call");
@@ -96,10 +133,7 @@ fn storm<B: BookNaming + Send + Sync, R: Threads + Wait + Abort + Sync>(
     requires made { (token.made.name ≡ B.made) × (token.made.parts ≡ B.seats) }
     requires totals { (token.totals.taken.name ≡ B.taken) × (token.totals.delivered.name ≡ B.delivered) × (token.totals.taken.parts ≡ B.parts) }
 {
-    let gusts = Gusts {
-        expansions: AtomicU64::new(0),
-        answered: AtomicU64::new(0),
-    };
+    let gusts = Gusts::new();
     let shared = SharedBook::<B>::new(alloc, token);
     let passes = passes(rt, alloc, &shared)?;
     let (passes, tallies) = thread::join(
@@ -123,6 +157,7 @@ fn check_audit(rt: &impl Abort, alloc: Global, audit: &Audit, calls: usize) -> R
     assert!(rt; audit.entered == CALLERS);
     assert!(rt; audit.agreed);
     assert!(rt; audit.totals_agreed);
+    assert!(rt; audit.tallies as usize == WORKERS + 1);
     let entries = audit.book.entries();
     assert!(rt; entries.len() == calls);
     assert!(rt; replays(alloc, entries)?);
@@ -145,6 +180,7 @@ fn check_audit(rt: &impl Abort, alloc: Global, audit: &Audit, calls: usize) -> R
 fn storm_passes(rt: HostRuntime) -> Result<(), Fail> {
     let alloc = rt.alloc();
     let (audit, answered) = storm::<Brand, _>(&rt, alloc, BookToken::new(alloc)?)?;
+    assert!(rt; audit.book.results().delivered() > 0);
     check_audit(&rt, alloc, &audit, answered as usize)
 }
 

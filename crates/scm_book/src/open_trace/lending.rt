@@ -13,7 +13,7 @@ use super::{OpenTrace, Purpose};
 use crate::copying::{copy_of_lengths, copy_of_sequences};
 use crate::known_schedules::KnownSchedules;
 use crate::loan::Loan;
-use crate::proposing::Proposing;
+use crate::proposing::{Proposing, has_few_situations};
 use scm_cells::{Cells, Name};
 use scm_reach::Reach;
 use scm_sequences::{Lengths, Sequences};
@@ -91,7 +91,17 @@ impl OpenTrace {
 
     /// Whether its set is to be lent for work, as far as can be told with no look at it.
     pub(crate) fn may_want_work(&self) -> bool {
-        self.loan_state.may_want_work() && self.budget.room(self.reach.held())
+        self.loan_state.may_want_work() && self.budget.room(self.reach.held()) && !self.is_small()
+    }
+
+    /// Whether it is worked on by tasks: it has few situations at most, and its set is here.
+    pub(crate) fn is_for_tasks(&self) -> bool {
+        self.loan_state.is_here() && self.is_small()
+    }
+
+    /// Whether it has few situations at most.
+    fn is_small(&self) -> bool {
+        has_few_situations(&self.sequences.lengths(), self.budget.limit())
     }
 
     /// The set, to be searched elsewhere for what questions will want. `None`, with everything as it was, where it is settled,

@@ -75,9 +75,13 @@ impl LoanState {
     /// Whether it may be lent for work: it is here, and the trace grew since it was looked at, or nothing changed and something
     /// was left.
     pub(crate) fn may_want_work(&self) -> bool {
-        let is_here = self.questions == 0 && !self.is_at_work;
         let has_grown = self.since > 0 && self.since.saturating_mul(PART) >= self.before;
-        is_here && (has_grown || self.is_unfinished && self.since == 0)
+        self.is_here() && (has_grown || self.is_unfinished && self.since == 0)
+    }
+
+    /// Whether it isn't lent.
+    pub(crate) fn is_here(&self) -> bool {
+        self.questions == 0 && !self.is_at_work
     }
 
     /// Whether it is lent for work.

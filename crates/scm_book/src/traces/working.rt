@@ -1,5 +1,5 @@
 //! What workers take and deliver.
-ghost use Rattle.std.specs.Prelude.{◌≡◌, ◌↔◌, false, MatchOption, MatchResult};
+ghost use Rattle.std.specs.Prelude.{◌≡◌, ◌↔◌, false, IfSome, MatchOption, MatchResult};
 ghost use Rattle.scm_book.specs.Sets.{machine_in, sets_in, InKept};
 ghost use Rattle.scm_book.specs.Workers.{Offers, OffersNew, OffersNothing, OffersNothingNew, ComesFirst, Takes, Meets, Delivers};
 
@@ -31,10 +31,43 @@ impl Traces {
     fn offering(&self) -> Option<Name>
         ensures { MatchOption result (OffersNothing (machine_in self.now) (sets_in self.now)) (λ name. InKept self.now name (ComesFirst (machine_in self.now) (sets_in self.now))) }
     {
+        if let Some(name) = self.small_new() {
+            return Some(name);
+        }
         match self.first_new() {
             Some(name) => Some(name),
             None => self.first(),
         }
+    }
+
+    /// The first trace that is worked on by tasks, with operations to be looked at that weren't handed out, and room in its
+    /// budget.
+    fn small_new(&self) -> Option<Name>
+        ensures { IfSome result (λ name. InKept self.now name OffersNew) }
+    {
+        for place in 0..self.traces.len() {
+            let (name, _) = self.traces.get_index(place).unwrap();
+            if self
+                .traces
+                .get(name)
+                .is_some_and(|trace| trace.offers_small_new())
+            {
+                return Some(*name);
+            }
+        }
+        None
+    }
+
+    /// Whether tasks would be taken of a trace that is worked on by them; where they may not come again, some that weren't
+    /// handed out.
+    pub(crate) fn has_small_tasks(&self, again: bool) -> bool {
+        let Some(name) = self.offering() else {
+            return false;
+        };
+        let Some(trace) = self.traces.get(&name) else {
+            return false;
+        };
+        trace.offers_small_new() || again && trace.is_for_tasks()
     }
 
     /// The first trace with operations to be looked at that weren't handed out, and room in its budget.

@@ -1,11 +1,13 @@
-//! That workers search the sets of a shared book while its callers rest, and that nobody waits for one who is at work.
+//! That workers search a shared book's large sets while its callers rest, and that nobody waits for one who is held.
 ghost use Rattle.std.specs.Prelude.{◌≡◌};
 
 use scm_book::{Book, Reply};
 use scm_cells::Name;
-use scm_expand::{FreeGate, Gate, TaskSource};
+use scm_expand::{FreeGate, Gate, TaskSource, run_workers};
+use scm_results::Tally;
+use scm_sequences::NoMemory;
 use scm_sessions::read_line;
-use scm_shared::{BookNaming, BookToken, Pass, SharedBook, run_searchers};
+use scm_shared::{BookNaming, BookToken, Pass, SharedBook};
 use std::alloc::Global;
 use std::marker::Brand;
 use std::process::Abort;
@@ -24,10 +26,8 @@ const MOST_TURNS: u64 = 100_000_000;
 /// For so many milliseconds workers have time.
 const MOST_MILLIS: u64 = 60_000;
 
-/// Store buffering in t, which no schedule explains, and a trace u that an empty one does.
-const BUFFERING: &str =
-    "a open u 1 100 x:w=0\na open t 2 100 x:w=0 y:w=0\na claim t 0\na claim t 1\n\
-    a do t 0 sw x 1\na do t 0 lw y 0\na do t 1 sw y 1\na do t 1 lw x 0\n";
+/// A trace u that an empty schedule explains.
+const EMPTY: &str = "a open u 1 100 x:w=0\n";
 
 /// A load in t of what nobody stores.
 const FORBIDDEN: &str =
@@ -80,16 +80,18 @@ fn entered<B: BookNaming, R: Wait + Abort>(
     pass
 }
 
-/// The book, where the audit of its only pass agrees.
+/// The book, where the audit of its only pass agrees, and there is a tally of each worker and of the collector.
 fn audited<B: BookNaming>(
     rt: &impl Abort,
     alloc: Global,
     shared: SharedBook<B>,
     pass: Pass<B>,
+    tallies: Result<Vec<Tally<B>>, NoMemory>,
 ) -> Book {
     let passes = vec![in alloc; pass].expect(rt, "memory");
-    let audit = shared.audit(passes, Vec::new(alloc));
+    let audit = shared.audit(passes, tallies.expect(rt, "threads and memory"));
     assert!(rt; audit.agreed && audit.totals_agreed);
+    assert!(rt; audit.tallies as usize == WORKERS + 1);
     audit.book
 }
 
@@ -99,7 +101,7 @@ fn held(rt: &impl Abort, book: &Book) -> usize {
     book.held(&name).expect(rt, "t")
 }
 
-/// Holds workers, who have a set lent, until it is opened.
+/// Holds workers, who have nothing in hand, until it is opened.
 #[derive(Drop)]
 struct Barrier {
     came: AtomicBool,
@@ -126,7 +128,7 @@ fn is_set(flag: &AtomicBool) -> bool {
     false
 }
 
-/// Reports to t and asks about u, while a worker who has the set of t is held, and asks about t once it isn't.
+/// Reports to t, and asks about u and t, while a worker is held who comes to search the set of t.
 fn call_meanwhile<B: BookNaming, R: Wait + Abort>(
     rt: &R,
     alloc: Global,
@@ -135,11 +137,11 @@ fn call_meanwhile<B: BookNaming, R: Wait + Abort>(
     barrier: &Barrier,
 ) {
     assert!(rt; is_set(&barrier.came));
-    report(rt, alloc, shared, pass, "a do t 0 sw x 2\n");
+    report(rt, alloc, shared, pass, STORES);
     assert!(rt; verdict(rt, alloc, shared, pass, "a ask u") == "consistent");
+    assert!(rt; verdict(rt, alloc, shared, pass, "a ask t") == "inconsistent");
     assert!(rt; !barrier.left.load(Ordering::SeqCst));
     barrier.open.store(true, Ordering::SeqCst);
-    assert!(rt; verdict(rt, alloc, shared, pass, "a ask t") == "inconsistent");
 }
 
 fn hold<B: BookNaming + Send + Sync, R: Threads + Wait + Abort + Sync>(
@@ -157,22 +159,26 @@ fn hold<B: BookNaming + Send + Sync, R: Threads + Wait + Abort + Sync>(
         left: AtomicBool::new(false),
     };
     let shared = SharedBook::<B>::new(alloc, token);
-    let mut pass = entered(rt, alloc, &shared, BUFFERING);
-    thread::join(
+    let mut pass = entered(rt, alloc, &shared, EMPTY);
+    report(rt, alloc, &shared, &mut pass, FORBIDDEN);
+    for _ in 0..TIMES {
+        report(rt, alloc, &shared, &mut pass, STORES);
+    }
+    let (_, tallies) = thread::join(
         rt,
         || {
             call_meanwhile(rt, alloc, &shared, &mut pass, &barrier);
             shared.stop_workers();
         },
-        || run_searchers::<B, Barrier, R>(rt, alloc, &shared, &barrier, WORKERS),
+        || run_workers::<B, SharedBook<B>, Barrier, R>(rt, alloc, &shared, &barrier, WORKERS),
     );
-    audited(rt, alloc, shared, pass)
+    audited(rt, alloc, shared, pass, tallies)
 }
 
 #[test]
-fn calls_while_a_set_is_lent(rt: HostRuntime) -> Result<(), Fail> {
+fn calls_while_a_worker_is_held(rt: HostRuntime) -> Result<(), Fail> {
     let book = hold::<Brand, _>(&rt, rt.alloc(), BookToken::new(rt.alloc())?);
-    assert!(rt; held(&rt, &book) == 10);
+    assert!(rt; held(&rt, &book) == (TIMES + 2) * (TIMES + 2));
     Ok(())
 }
 
@@ -215,15 +221,15 @@ fn rest<B: BookNaming + Send + Sync, R: Threads + Wait + Abort + Sync>(
 {
     let shared = SharedBook::<B>::new(alloc, token);
     let mut pass = entered(rt, alloc, &shared, FORBIDDEN);
-    thread::join(
+    let (_, tallies) = thread::join(
         rt,
         || {
             rest_and_ask(rt, alloc, &shared, &mut pass);
             shared.stop_workers();
         },
-        || run_searchers::<B, FreeGate, R>(rt, alloc, &shared, &FreeGate, WORKERS),
+        || run_workers::<B, SharedBook<B>, FreeGate, R>(rt, alloc, &shared, &FreeGate, WORKERS),
     );
-    audited(rt, alloc, shared, pass)
+    audited(rt, alloc, shared, pass, tallies)
 }
 
 #[test]
