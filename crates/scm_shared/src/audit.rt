@@ -140,7 +140,7 @@ fn take_in<B: BookNaming>(
 }
 
 impl<B: BookNaming> Locked<B> {
-    /// Takes the locked apart, and compares the passes with the journal and the tallies with the totals. That the calls of every
+    /// Takes apart what the lock holds, and compares the passes with the journal and the tallies with the totals. That the calls of every
     /// pass are its session's entries is proved, by the rule of the counting word, and looked at all the same.
     pub(crate) fn audit(
         self,
@@ -152,7 +152,7 @@ impl<B: BookNaming> Locked<B> {
         ensures entered { result.entered ≡ self.entered }
         ensures most_entered { (vec_len passes ≤ result.entered) × (result.entered ≤ MOST_SESSIONS) }
         ensures tallies { result.tallies ≡ self.totals.given }
-        ensures most_tallies { result.tallies ≤ MOST_TALLIES }
+        ensures most_tallies { (vec_len tallies ≤ result.tallies) × (result.tallies ≤ MOST_TALLIES) }
         ensures legal { IsLegalBook result.book }
         ensures fits { All (λ pass. Fits result.book.journal pass) passes.items }
         ensures numbers { All (λ pass. pass.number < result.entered) passes.items }

@@ -26,7 +26,7 @@ use std::marker::{Model, PhantomData};
 use std::sync::ledger;
 use std::sync::ledger::{Blank, Share};
 
-/// A question that the book lent, with its set. It can't be let go: only the locked of this book takes it apart, to take it back.
+/// A question that the book lent, with its set. It can't be let go: only the lock's value of this book takes it apart, to take it back.
 pub(crate) struct BookLoan<B: BookNaming> {
     question: Loan,
     of: PhantomData<B>,
