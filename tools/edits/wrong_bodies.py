@@ -5,7 +5,7 @@ from dataclasses import dataclass
 
 WHY = "# why: "  # begins an edit's first line, which says what a user would see; rt reads no line that begins so
 OWNER = re.compile(r"(?m)^impl(?:<.*?>)? (?:(\w+)(<\w+>)?.* for )?(\w+).*\{$")
-FUNCTION = re.compile(r"(?m)^([ \t]*)(?:pub(?:\([^)]*\))? )?(?:const |unsafe )*fn (\w+)")
+FUNCTION = re.compile(r"(?m)^([ \t]*)(?:pub(?:\([^)]*\))? )?(?:const |unsafe |extern \"C\" )*fn (\w+)")
 
 
 @dataclass(frozen=True)
@@ -31,9 +31,11 @@ class Function:
         return "::".join([self.owner or self.module().replace("/", "::"), self.name]).removeprefix("::")
 
     def proofs(self):
-        """The files of its proofs: by the module and the function; the type between them isn't read here."""
+        """The files of its proofs, and of its closures'. A method's stand below the module of its type, wherever that is: its path
+        fits one function alone, or the prover refuses it."""
         module = self.module()
-        return re.compile(rf"proofs/{module + '/' if module else ''}(?:[^/]+/)?{self.name}/[^/]+")
+        within = f"(?:[^/]+/)*{self.owner}/" if self.owner else f"{module}/" if module else ""
+        return re.compile(rf"proofs/{within}(?:{self.name}/[^/]+|fn/{self.name}/.+)")
 
 
 @dataclass(frozen=True)
