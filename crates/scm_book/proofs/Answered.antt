@@ -5,7 +5,7 @@ use Rattle.scm_expand.specs.Outcomes.{Expanded}
 use Rattle.scm_book.specs.Calls.{ReplyData, CallData}
 use Rattle.scm_book.specs.Runs.{Answered, IsRun}
 use Rattle.scm_book.specs.Journal.{BookState, makes_entry, IsUnchanged}
-use Rattle.scm_book.specs.Inquiries.{Inquired, IsLent, IsLentForWork}
+use Rattle.scm_book.specs.Loans.{Loaned, IsLent, IsLentForWork}
 use Rattle.scm_book.specs.Events.{EventData, call_by, takes, delivers, lends, lends_work, takes_back, IsAnswered, with_reply, AnswersAll, steps_of}
 
 with_reply-append : (reply : Option ReplyData) (replies more : List ReplyData) → with_reply reply replies ++ more ≡ with_reply reply (replies ++ more)
@@ -32,7 +32,7 @@ AnswersAll-more old mid new (first ∷ events) replies event reply answers answe
 )
 
 -- a loan leaves journal and machine as they were, whether a set was lent or not
-lent-unchanged : (old new : BookState) (lent : Option Inquired) (Lent : Inquired → Type 0) → ((q : Inquired) → Lent q → IsUnchanged old new) → MatchOption lent (new ≡ old) Lent → IsUnchanged old new
+lent-unchanged : (old new : BookState) (lent : Option Loaned) (Lent : Loaned → Type 0) → ((q : Loaned) → Lent q → IsUnchanged old new) → MatchOption lent (new ≡ old) Lent → IsUnchanged old new
 lent-unchanged old new None Lent unchanged same = record { journal = ap (λ (b : BookState). b.journal) same; machine = ap (λ (b : BookState). b.machine) same }
 lent-unchanged old new (Some q) Lent unchanged lent = unchanged q lent
 
@@ -58,9 +58,9 @@ module _ (old mid new : BookState) (events : List EventData) (replies others : L
   lent_work-run None answered are rest = idle-run lends_work (lent-unchanged old mid answered.0 (λ q. IsLentForWork old q mid) (λ q lent. lent.unchanged) answered.1) refl are rest
   lent_work-run (Some reply) answered are rest = absurd answered
 
-  taken_back-run : (inquiry : Inquired) (reply : Option ReplyData) → IsAnswered old (takes_back inquiry) reply mid → replies ≡ with_reply reply others → IsRun mid.machine (steps_of events others) new.machine → IsRun old.machine (steps_of (takes_back inquiry ∷ events) replies) new.machine
-  taken_back-run inquiry None answered are rest = idle-run (takes_back inquiry) answered.unchanged refl are rest
-  taken_back-run inquiry (Some reply) answered are rest = absurd answered
+  taken_back-run : (loan : Loaned) (reply : Option ReplyData) → IsAnswered old (takes_back loan) reply mid → replies ≡ with_reply reply others → IsRun mid.machine (steps_of events others) new.machine → IsRun old.machine (steps_of (takes_back loan ∷ events) replies) new.machine
+  taken_back-run loan None answered are rest = idle-run (takes_back loan) answered.unchanged refl are rest
+  taken_back-run loan (Some reply) answered are rest = absurd answered
 
 -- a call is a step of the machine where its reply makes an entry
 module _ (old mid new : BookState) (session : ℕ) (call : CallData) (events : List EventData) (replies others : List ReplyData) where
@@ -89,8 +89,8 @@ steps_of-run old new (lends call ∷ events) replies answers =
     lent-run old answers.0 new events replies answers.2 call answers.1 answers.3 answers.5 (steps_of-run answers.0 new events answers.2 answers.4)
 steps_of-run old new (lends_work ∷ events) replies answers =
     lent_work-run old answers.0 new events replies answers.2 answers.1 answers.3 answers.5 (steps_of-run answers.0 new events answers.2 answers.4)
-steps_of-run old new (takes_back inquiry ∷ events) replies answers =
-    taken_back-run old answers.0 new events replies answers.2 inquiry answers.1 answers.3 answers.5 (steps_of-run answers.0 new events answers.2 answers.4)
+steps_of-run old new (takes_back loan ∷ events) replies answers =
+    taken_back-run old answers.0 new events replies answers.2 loan answers.1 answers.3 answers.5 (steps_of-run answers.0 new events answers.2 answers.4)
 
 -- what was answered so far, with room for a reply to each event
 pub record HasAnswered (old : BookState) (events : List EventData) (replies : List ReplyData) (new : BookState) (all room : ℕ) : Type 0 where

@@ -3,11 +3,11 @@ use Rattle.std.proofs.Common.{◌≡◌, ℕ, ◌+◌, ◌*◌, ◌<◌, ◌^◌
 use Rattle.scm_sequences.specs.declared.refusal.Refusal.{Refusal}
 use Rattle.scm_sequences.specs.Lengths.{IsWithin}
 use Rattle.scm_sequences.specs.Ops.{NamesCellsBelow}
-use Rattle.scm_sequences.specs.LengthLaws.{IsWithin-reflexive}
+use Rattle.scm_sequences.specs.laws.LengthLaws.{IsWithin-reflexive}
 use Rattle.scm_sequences.specs.Sequences.{lengths_of}
-use Rattle.scm_sequences.specs.SequenceLaws.{length-lengths_of}
+use Rattle.scm_sequences.specs.laws.SequenceLaws.{length-lengths_of}
 use Rattle.scm_sequences.specs.Traces.{Trace, cut_to}
-use Rattle.scm_sequences.specs.CutLaws.{cut_to-whole}
+use Rattle.scm_sequences.specs.laws.CutLaws.{cut_to-whole}
 use Rattle.scm_reach.specs.Kept.{Kept}
 use Rattle.scm_book.specs.Asking.{CanAsk, IsAsWanted, lengths_asked, AsksFor}
 use Rattle.scm_book.specs.Calls.{ReplyData}

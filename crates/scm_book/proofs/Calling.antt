@@ -16,7 +16,7 @@ use Rattle.scm_book.specs.Sets.{KeptTrace, machine_in, sets_in, LeavesSets}
 use Rattle.scm_book.specs.Runs.{Answered, IsRun}
 use Rattle.scm_book.specs.Journal.{BookState, IsUnchanged, IsLegalHistory, AreOfEntry, IsCall, is_full, makes_entry, entered, answered}
 use Rattle.scm_book.proofs.Counting.{AreNumbered-entered}
-use Rattle.scm_book.specs.ReplyLaws.{IsStep-enters}
+use Rattle.scm_book.specs.laws.ReplyLaws.{IsStep-enters}
 use Rattle.scm_book.proofs.Leaving.{leaves_idle}
 
 -- ---- histories

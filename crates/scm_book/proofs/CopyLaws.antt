@@ -3,8 +3,8 @@ use Rattle.std.proofs.Common.{ℕ, ◌≡◌, ◌<◌, ◌≤◌, List, [], ◌�
 use Rattle.std.proofs.lemmas.List.{ext_get_or, get_or-take, length-take}
 use Rattle.scm_sequences.specs.declared.op.Op.{Op}
 use Rattle.scm_sequences.specs.Sequences.{operations, pushed}
-use Rattle.scm_book.specs.Inquiries.{HasPushed}
-use Rattle.scm_sequences.specs.SequenceLaws.{length-pushed, operations-pushed_here, operations-pushed_other}
+use Rattle.scm_book.specs.Loans.{HasPushed}
+use Rattle.scm_sequences.specs.laws.SequenceLaws.{length-pushed, operations-pushed_here, operations-pushed_other}
 
 -- the first of some counts are these lengths
 pub take-counted : (counts lengths : List ℕ) (n : ℕ) → n ≡ length lengths → length lengths ≤ length counts → ((k : ℕ) → k < n → slice_index counts k ≡ slice_index lengths k) → take n counts ≡ lengths

@@ -8,10 +8,10 @@ use Rattle.scm_sequences.specs.Ops.{read_of}
 use Rattle.scm_sequences.specs.Traces.{Trace, trace_of, initial_of, cut_to}
 use Rattle.scm_sequences.specs.Fronts.{IsLegal}
 use Rattle.scm_sequences.specs.FixedValues.{unwritten_read, fixed_value, fixed_values}
-use Rattle.scm_sequences.specs.FixedLaws.{unwritten_read-nil, unwritten_read-step}
-use Rattle.scm_sequences.specs.CutLaws.{AgreeOn, AgreeOn-earlier, AgreeOn-cut, following-agree, last_written-agree, count_in-cut}
+use Rattle.scm_sequences.specs.laws.FixedLaws.{unwritten_read-nil, unwritten_read-step}
+use Rattle.scm_sequences.specs.laws.CutLaws.{AgreeOn, AgreeOn-earlier, AgreeOn-cut, following-agree, last_written-agree, count_in-cut}
 use Rattle.scm_cells.specs.CellLists.{Declared, initials_of}
-use Rattle.scm_cells.specs.CellLaws.{length-initials_of}
+use Rattle.scm_cells.specs.laws.CellLaws.{length-initials_of}
 
 -- ---- each is of a cell
 

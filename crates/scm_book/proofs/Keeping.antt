@@ -5,7 +5,7 @@ use Rattle.scm_sequences.specs.Sequences.{pushed, cut_lists}
 use Rattle.scm_sequences.specs.Traces.{trace_of, cut_to}
 use Rattle.scm_reach.specs.Cutting.{cut_members}
 use Rattle.scm_reach.specs.Kept.{Kept, IsKept}
-use Rattle.scm_reach.specs.WorkLaws.{length-cut-le}
+use Rattle.scm_reach.specs.laws.WorkLaws.{length-cut-le}
 use Rattle.scm_cells.specs.CellLists.{initials_of}
 use Rattle.scm_book.specs.Machine.{TraceState}
 use Rattle.scm_book.specs.Sound.{IsKeptFor}

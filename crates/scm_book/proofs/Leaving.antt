@@ -11,7 +11,7 @@ use Rattle.scm_reach.specs.Kept.{Kept}
 use Rattle.scm_reach.specs.Members.{Member}
 use Rattle.scm_sequences.specs.declared.op.Op.{Op}
 use Rattle.scm_reach.specs.Cutting.{cut_members}
-use Rattle.scm_reach.specs.WorkLaws.{KeepsWork-idle, KeepsWork-counted}
+use Rattle.scm_reach.specs.laws.WorkLaws.{KeepsWork-idle, KeepsWork-counted}
 use Rattle.scm_book.specs.Calls.{CallData, opens, claims, releases, reports, sets_mark, goes_back, raises, asks, asks_why, asks_cycle, shows, lists, closes, ReplyData, done, marked, consistent, inconsistent, undecided, because, cycle, unknown, ops, listed, refused}
 use Rattle.scm_book.specs.Changes.{tells_of_change}
 use Rattle.scm_book.specs.Machine.{Machine, TraceState, trace_named}

@@ -8,12 +8,12 @@ use Rattle.scm_sequences.specs.Traces.{trace_of}
 use Rattle.scm_cells.specs.Names.{name_eq}
 use Rattle.scm_cells.specs.declared.width.Width.TheVariants.{W}
 use Rattle.scm_cells.specs.CellLists.{Declared, initials_of}
-use Rattle.scm_cells.specs.CellLaws.{length-initials_of}
+use Rattle.scm_cells.specs.laws.CellLaws.{length-initials_of}
 use Rattle.scm_frontier.specs.Comparisons.{option_eq-Decides}
 use Rattle.scm_reach.specs.Kept.{Kept, IsKept}
-use Rattle.scm_reach.specs.MemberLaws.{at_from_IsSomeAnd}
+use Rattle.scm_reach.specs.laws.MemberLaws.{at_from_IsSomeAnd}
 use Rattle.scm_book.specs.Asking.{CanAsk}
-use Rattle.scm_book.specs.Inquiries.{Inquired, CanSearch, Lends, IsLentOf, TakesBack, IsTakenBack}
+use Rattle.scm_book.specs.Loans.{Loaned, CanSearch, Lends, IsLentOf, TakesBack, IsTakenBack}
 use Rattle.scm_book.specs.Machine.{Machine, TraceState, trace_named}
 use Rattle.scm_book.specs.Sets.{set_named, asked_lengths, most_steps, Becomes}
 use Rattle.scm_book.specs.Sound.{IsSoundTrace, IsKeptFor}
@@ -65,23 +65,23 @@ IsKeptFor-carried state set new cells same kept few =
 -- ---- of the traces
 
 module _ (machine : Machine) (sets new : List (List ℕ × Kept)) (name : List ℕ) where
-  pub lent_of : (mark : Option ℕ) (state : TraceState) (old kept : Kept) (lent : Option Inquired) → trace_named machine name ≡ Some state → set_named sets name ≡ Some old
+  pub lent_of : (mark : Option ℕ) (state : TraceState) (old kept : Kept) (lent : Option Loaned) → trace_named machine name ≡ Some state → set_named sets name ≡ Some old
       → MatchOption lent (kept ≡ old) (λ q. Lends name mark state old q kept) → new ≡ set_value (name_eq name) sets kept → MatchOption lent (new ≡ sets) (λ q. IsLentOf machine sets name mark q new)
   lent_of mark state old kept None there found same written = written ∙ ap (set_value (name_eq name) sets) same ∙ set_value_same (name_eq name) sets old found
   lent_of mark state old kept (Some q) there found lends written =
       record { state = state; there = there; lent = record { before = old; after = kept; found = found; leads = lends; written = written } }
 
   -- the same of what is lent for work
-  pub lent_work_of : (state : TraceState) (old kept : Kept) (lent : Option Inquired) → trace_named machine name ≡ Some state → set_named sets name ≡ Some old
+  pub lent_work_of : (state : TraceState) (old kept : Kept) (lent : Option Loaned) → trace_named machine name ≡ Some state → set_named sets name ≡ Some old
       → MatchOption lent (kept ≡ old) (λ q. Lends name None state old q kept) → new ≡ set_value (name_eq name) sets kept → MatchOption lent (new ≡ sets) (λ q. IsLentOf machine sets q.name None q new)
   lent_work_of state old kept None there found same written = lent_of None state old kept None there found same written
   lent_work_of state old kept (Some q) there found lends written = subst (λ n. IsLentOf machine sets n None q new) (sym lends.named) (lent_of None state old kept (Some q) there found lends written)
 
-  pub taken_none : (q : Inquired) → name ≡ q.name → trace_named machine name ≡ None → new ≡ sets → IsTakenBack machine sets q new
+  pub taken_none : (q : Loaned) → name ≡ q.name → trace_named machine name ≡ None → new ≡ sets → IsTakenBack machine sets q new
   taken_none q is none same = subst (λ n. MatchOption (trace_named machine n) (new ≡ sets) (λ state. Becomes sets n (TakesBack state q) new)) is
       (subst (λ o. MatchOption o (new ≡ sets) (λ state. Becomes sets name (TakesBack state q) new)) (sym none) same)
 
-  pub taken_some : (q : Inquired) → name ≡ q.name → (state : TraceState) (old kept : Kept) → trace_named machine name ≡ Some state → set_named sets name ≡ Some old → TakesBack state q old kept → new ≡ set_value (name_eq name) sets kept
+  pub taken_some : (q : Loaned) → name ≡ q.name → (state : TraceState) (old kept : Kept) → trace_named machine name ≡ Some state → set_named sets name ≡ Some old → TakesBack state q old kept → new ≡ set_value (name_eq name) sets kept
       → IsTakenBack machine sets q new
   taken_some q is state old kept there found takes written = subst (λ n. MatchOption (trace_named machine n) (new ≡ sets) (λ s. Becomes sets n (TakesBack s q) new)) is
       (subst (λ o. MatchOption o (new ≡ sets) (λ s. Becomes sets name (TakesBack s q) new)) (sym there) (record { before = old; after = kept; found = found; leads = takes; written = written }))

@@ -17,4 +17,4 @@ mod FixedValues
 pub mod CopyLaws
 pub mod Searching
 pub mod LendingLaws
-pub mod EarlierLaws
+pub mod KnownSchedulesLaws

@@ -5,7 +5,7 @@ use Rattle.std.proofs.lemmas.Bool.{cases_lt}
 use Rattle.std.proofs.lemmas.List.{get_or_append_left, get_or-take, get_or_default, length-take, length_push}
 use Rattle.std.proofs.lemmas.List.Quantifiers.{all_pairs_push}
 use Rattle.scm_sequences.specs.Lengths.{IsWithin}
-use Rattle.scm_sequences.specs.LengthLaws.{IsWithin-reflexive, IsWithin-transitive}
+use Rattle.scm_sequences.specs.laws.LengthLaws.{IsWithin-reflexive, IsWithin-transitive}
 
 -- the items before the last
 pub before_last : (marks : List (List ℕ)) (last : List ℕ) → AllPairs IsWithin (marks ++ last ∷ []) → AllPairs IsWithin marks

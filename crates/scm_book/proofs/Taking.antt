@@ -5,7 +5,7 @@ use Rattle.std.proofs.lemmas.Option.{slice_get_within}
 use Rattle.std.proofs.lemmas.Map.Steps.{set_value_same}
 use Rattle.std.specs.Map.{lookup, set_value}
 use Rattle.std.specs.Option.{option_map_or}
-use Rattle.scm_cells.specs.NameLaws.{name_eq-Decides}
+use Rattle.scm_cells.specs.laws.NameLaws.{name_eq-Decides}
 use Rattle.scm_cells.specs.Names.{name_eq}
 use Rattle.scm_expand.specs.declared.task.Task.{Task}
 use Rattle.scm_reach.specs.Handing.{Hands}

@@ -9,7 +9,7 @@ use Rattle.scm_book.specs.Calls.{CallData, ReplyData, call_data}
 use Rattle.scm_book.specs.Runs.{Answered}
 use Rattle.scm_book.specs.Journal.{BookState, makes_entry, IsCall}
 use Rattle.scm_book.specs.Workers.{IsTaking, IsDelivery}
-use Rattle.scm_book.specs.Inquiries.{Inquired, IsLending, IsLendingForWork, IsTakingBack}
+use Rattle.scm_book.specs.Loans.{Loaned, IsLending, IsLendingForWork, IsTakingBack}
 
 pub data EventData : Type 0 where
   -- a session and its call
@@ -23,7 +23,7 @@ pub data EventData : Type 0 where
   -- a set is lent for work
   lends_work : EventData
   -- what was lent comes back
-  takes_back : Inquired → EventData
+  takes_back : Loaned → EventData
 
 abbrev pub event_data : Event → EventData
 event_data (CallBy session call) = call_by session (call_data call)
@@ -31,7 +31,7 @@ event_data (Take n) = takes n
 event_data (Deliver outcomes) = delivers outcomes.items
 event_data (Lend call) = lends (call_data call)
 event_data LendWork = lends_work
-event_data (TakeBack inquiry) = takes_back inquiry
+event_data (TakeBack loan) = takes_back loan
 
 -- an event leads from old to new: a call with its reply, what is taken, delivered, lent and taken back with none
 abbrev pub IsAnswered : BookState → EventData → Option ReplyData → BookState → Type 0
@@ -39,9 +39,9 @@ IsAnswered old (call_by session call) (Some reply) new = IsCall old session call
 IsAnswered old (call_by session call) None new = ⊥
 IsAnswered old (takes n) None new = (given : Option (List Task)) × IsTaking old n given new
 IsAnswered old (delivers outcomes) None new = (delivered : Results) × IsDelivery old outcomes delivered new
-IsAnswered old (lends call) None new = (lent : Option Inquired) × IsLending old call lent new
-IsAnswered old lends_work None new = (lent : Option Inquired) × IsLendingForWork old lent new
-IsAnswered old (takes_back inquiry) None new = IsTakingBack old inquiry new
+IsAnswered old (lends call) None new = (lent : Option Loaned) × IsLending old call lent new
+IsAnswered old lends_work None new = (lent : Option Loaned) × IsLendingForWork old lent new
+IsAnswered old (takes_back loan) None new = IsTakingBack old loan new
 IsAnswered old event (Some reply) new = ⊥
 
 -- the replies, with this one first if it is one

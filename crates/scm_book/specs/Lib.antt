@@ -1,3 +1,4 @@
+pub mod laws
 pub mod Calls
 pub mod Machine
 pub mod Sound
@@ -10,12 +11,10 @@ pub mod Asking
 pub mod Changes
 pub mod Runs
 pub mod Journal
-pub mod ReplyLaws
 pub mod Callers
-pub mod CallerLaws
 pub mod JournalState
 pub mod Workers
-pub mod Inquiries
+pub mod Loans
 pub mod Events
 pub use Rattle.scm_sequences.specs.Fronts
 pub use Rattle.scm_sequences.specs.Traces

@@ -6,12 +6,12 @@ ghost use Rattle.scm_book.specs.Machine.{empty_machine};
 ghost use Rattle.scm_book.specs.Sets.{HasRoom, HasRoomFor, HoldsFor, LeavesSets, SearchesSet};
 ghost use Rattle.scm_results.specs.Totals.{capped, none_counted};
 ghost use Rattle.scm_book.specs.Workers.{IsTaking, IsDelivery, OffersNothingNew};
-ghost use Rattle.scm_book.specs.Inquiries.{IsLending, IsLendingForWork, IsTakingBack};
+ghost use Rattle.scm_book.specs.Loans.{IsLending, IsLendingForWork, IsTakingBack};
 ghost use Rattle.scm_book.specs.Changes.{tells_of_change};
 ghost use Rattle.scm_book.specs.Journal.{count_of as count_in, GivesCopies, IsCall, IsLegalBook};
 
-use crate::inquiry::Inquiry;
 use crate::journal::Journal;
+use crate::loan::Loan;
 use crate::traces::Traces;
 use crate::{Call, Decl, Entry, Reply};
 use scm_cells::Name;
@@ -141,7 +141,7 @@ impl Book {
     /// The question that a call asks, to be searched with no book at hand, with the set that is kept for its trace; the start
     /// alone stays in its place. `None`, with everything as it was, where the call isn't a question, its trace or mark isn't
     /// there, its answer is likely to be near, or memory is refused. Neither machine nor journal changes.
-    pub fn lend(&mut self, call: &Call) -> Option<Inquiry>
+    pub fn lend(&mut self, call: &Call) -> Option<Loan>
         ensures lends { IsLending self.old (call_data call.now) result self.new }
         ensures legal { IsLegalBook self.new }
     {
@@ -155,7 +155,7 @@ impl Book {
     /// is consistent; the start alone stays in its place. `None`, with everything as it was, where no trace wants it, where the
     /// first one that might turns out to have a schedule or a settled set, or memory is refused: `may_want_work` tells whether to
     /// try again. Neither machine nor journal changes.
-    pub fn lend_work(&mut self) -> Option<Inquiry>
+    pub fn lend_work(&mut self) -> Option<Loan>
         ensures lends { IsLendingForWork self.old result self.new }
         ensures legal { IsLegalBook self.new }
     {
@@ -181,11 +181,11 @@ impl Book {
     /// Takes a question back that was lent, whatever happened since. Where its trace is there, what it found out is kept as
     /// far as it is true of the trace as it stands, in place of what was found out meanwhile, if it is more and no more than
     /// the budget allows. Neither machine nor journal changes. It takes no memory.
-    pub fn take_back(&mut self, inquiry: Inquiry)
-        ensures taken { IsTakingBack self.old inquiry self.new }
+    pub fn take_back(&mut self, loan: Loan)
+        ensures taken { IsTakingBack self.old loan self.new }
         ensures legal { IsLegalBook self.new }
     {
-        self.traces.take_back(inquiry);
+        self.traces.take_back(loan);
     }
 
     /// Whether the counter has room for the steps of a question about the trace of this name. A new counter always has.

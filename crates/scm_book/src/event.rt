@@ -7,7 +7,7 @@ ghost use Rattle.scm_book.specs.Runs.{IsRun};
 ghost use Rattle.scm_book.specs.Journal.{IsLegalBook};
 ghost use Rattle.scm_book.specs.Events.{event_data, IsAnswered, AnswersAll, with_reply, steps_of};
 
-use crate::{Book, Call, Inquiry, Reply};
+use crate::{Book, Call, Loan, Reply};
 use scm_expand::Outcome;
 use std::alloc::Global;
 
@@ -25,7 +25,7 @@ pub enum Event {
     /// A set is lent for work, and dropped.
     LendWork,
     /// What was lent comes back: whenever, and of whatever book.
-    TakeBack(Inquiry),
+    TakeBack(Loan),
 }
 
 /// The reply to an event, where it is a call.
@@ -51,8 +51,8 @@ fn answer(book: &mut Book, event: Event) -> Option<Reply>
             let _dropped = book.lend_work();
             None
         }
-        Event::TakeBack(inquiry) => {
-            book.take_back(inquiry);
+        Event::TakeBack(loan) => {
+            book.take_back(loan);
             None
         }
     }

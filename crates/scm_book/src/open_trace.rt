@@ -12,17 +12,17 @@ ghost use Rattle.scm_book.specs.Refusals.{trace_cause, claim_cause, release_caus
 ghost use Rattle.scm_book.specs.Showing.{shown_operations};
 
 mod asking;
-mod attention;
 mod lending;
+mod loan_state;
 mod refuting;
 mod working;
 
 use crate::declarations::declare_cells;
-use crate::earlier::Earlier;
+use crate::known_schedules::KnownSchedules;
 use crate::showing::show_all;
 use crate::{Decl, Shown};
-use attention::Attention;
-pub(crate) use attention::Purpose;
+use loan_state::LoanState;
+pub(crate) use loan_state::Purpose;
 use scm_budget::Budget;
 use scm_cells::Cells;
 use scm_lowering::{Access, lower};
@@ -45,9 +45,9 @@ pub(crate) struct OpenTrace {
     // What questions and outcomes found out stays for the next questions.
     reach: Reach,
     // So do the last schedule, which is no longer than the trace, and the order of the reports, for their proposals.
-    earlier: Earlier,
+    earlier: KnownSchedules,
     // What workers have to know of it.
-    attention: Attention,
+    loan_state: LoanState,
 }
 
 impl Model for OpenTrace {
@@ -111,8 +111,8 @@ impl OpenTrace {
             claimants,
             marks: Marks::new(alloc),
             reach,
-            earlier: Earlier::new(alloc),
-            attention: Attention::new(),
+            earlier: KnownSchedules::new(alloc),
+            loan_state: LoanState::new(),
         })
     }
 
@@ -164,7 +164,7 @@ impl OpenTrace {
         self.sequences.push(process, op)?;
         self.reach.grown(process);
         self.earlier.report(process);
-        self.attention.change();
+        self.loan_state.change();
         Ok(())
     }
 
@@ -217,7 +217,7 @@ impl OpenTrace {
         self.reach.cut(&self.sequences, lengths);
         self.sequences.cut(lengths);
         self.earlier.cut(lengths);
-        self.attention.change();
+        self.loan_state.change();
         self.marks.back(mark);
         Ok(())
     }
@@ -231,7 +231,7 @@ impl OpenTrace {
     {
         self.check_owner(session)?;
         self.earlier.retry();
-        self.attention.retry();
+        self.loan_state.retry();
         self.budget.raise(budget)
     }
 

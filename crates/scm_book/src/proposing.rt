@@ -6,9 +6,9 @@ ghost use Rattle.scm_sequences.specs.Ops.{NamesCellsBelow};
 ghost use Rattle.scm_sequences.specs.Sequences.{lengths_of};
 ghost use Rattle.scm_sequences.specs.Traces.{trace_of, cut_to};
 ghost use Rattle.scm_sequences.specs.Fronts.{IsSchedule};
-ghost use Rattle.scm_book.specs.Inquiries.{CanJudge};
+ghost use Rattle.scm_book.specs.Loans.{CanJudge};
 
-use crate::earlier::Earlier;
+use crate::known_schedules::KnownSchedules;
 use crate::open_trace::Purpose;
 use scm_frontier::Situation;
 use scm_proposals::{is_near_end, propose};
@@ -28,7 +28,7 @@ pub(crate) struct Proposing<'a> {
     pub(crate) lengths: &'a Lengths,
     /// How many situations may be kept.
     pub(crate) limit: usize,
-    pub(crate) earlier: &'a Earlier,
+    pub(crate) earlier: &'a KnownSchedules,
     /// For what they are proposed.
     pub(crate) purpose: Purpose,
 }

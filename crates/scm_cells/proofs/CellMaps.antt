@@ -14,7 +14,7 @@ use Rattle.scm_cells.specs.declared.cells.Cell.{Cell}
 use Rattle.scm_cells.specs.declared.initial.Initial.{Initial}
 use Rattle.scm_cells.specs.declared.width.Width.{Width}
 use Rattle.scm_cells.specs.Names.{name_eq}
-use Rattle.scm_cells.specs.NameLaws.{position-named, list_any-named}
+use Rattle.scm_cells.specs.laws.NameLaws.{position-named, list_any-named}
 use Rattle.scm_cells.specs.Initials.{first_contents}
 use Rattle.scm_cells.specs.CellLists.{Declared, add_refusal, cell_named, declared_cell, initials_of}
 use Rattle.scm_cells.specs.CellEntries.{cells_in}

@@ -1,10 +1,9 @@
+pub mod laws
 pub mod Names
-pub mod NameLaws
 pub mod Widths
 pub mod Numbers
 pub mod Initials
 pub mod Digits
 pub mod CellLists
-pub mod CellLaws
 pub mod CellEntries
 pub use Rattle.scm_sequences.specs.Refusals

@@ -4,8 +4,8 @@ use Rattle.std.proofs.lemmas.Bool.{cases_eq}
 use Rattle.scm_sequences.specs.declared.op.Op.{Op}
 use Rattle.scm_sequences.specs.Ops.{cell_of, read_of, written_to}
 use Rattle.scm_sequences.specs.Sequences.{operations}
-use Rattle.scm_sequences.specs.SequenceLaws.{process_within, operation_within}
-use Rattle.scm_sequences.specs.FixedLaws.{read_of-other}
+use Rattle.scm_sequences.specs.laws.SequenceLaws.{process_within, operation_within}
+use Rattle.scm_sequences.specs.laws.FixedLaws.{read_of-other}
 use Rattle.scm_sequences.specs.Traces.{Trace}
 use Rattle.scm_orders.specs.declared.place.Place.{Place}
 use Rattle.scm_orders.specs.declared.cut_trace.Reading.{Reading}

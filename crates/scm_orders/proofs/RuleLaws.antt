@@ -6,10 +6,10 @@ use borrow.Author.Count.{below_more}
 use Rattle.scm_sequences.specs.declared.op.Op.{Op}
 use Rattle.scm_sequences.specs.Ops.{read_of, written_to}
 use Rattle.scm_sequences.specs.Sequences.{operations, lengths_of}
-use Rattle.scm_sequences.specs.SequenceLaws.{operation_within, process_within, slice_index-lengths_of}
+use Rattle.scm_sequences.specs.laws.SequenceLaws.{operation_within, process_within, slice_index-lengths_of}
 use Rattle.scm_sequences.specs.Traces.{Trace, initial_of}
 use Rattle.scm_sequences.specs.Fronts.{count_in, counts_of, first_read, IsSchedule}
-use Rattle.scm_sequences.specs.FrontLaws.{slice_index-counts_of}
+use Rattle.scm_sequences.specs.laws.FrontLaws.{slice_index-counts_of}
 use Rattle.scm_orders.specs.declared.place.Place.{Place}
 use Rattle.scm_orders.specs.declared.cut_trace.Reading.{Reading}
 use Rattle.scm_orders.specs.declared.derivation.Fact.{Fact}

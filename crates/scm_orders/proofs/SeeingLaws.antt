@@ -7,7 +7,7 @@ use Rattle.scm_sequences.specs.declared.op.Op.TheVariants.{R, W, Rw}
 use Rattle.scm_sequences.specs.Ops.{cell_of, read_of, may_give, finds}
 use Rattle.scm_sequences.specs.Traces.{Trace, initial_of}
 use Rattle.scm_sequences.specs.Fronts.{count_in, following, last_written, first_read, value_before, IsLegal}
-use Rattle.scm_sequences.specs.FrontLaws.{last_written-nil, last_written-step, first_read-step, value_before-is, IsLegal-earlier, IsLegal-operation, IsLegal-finds}
+use Rattle.scm_sequences.specs.laws.FrontLaws.{last_written-nil, last_written-step, first_read-step, value_before-is, IsLegal-earlier, IsLegal-operation, IsLegal-finds}
 use Rattle.scm_orders.specs.declared.place.Place.{Place}
 use Rattle.scm_orders.specs.Places.{read_at, written_at}
 use Rattle.scm_orders.specs.Moments.{moment}

@@ -1,3 +1,3 @@
+pub mod laws
 pub mod Totals
-pub mod TotalLaws
 pub mod Tallies

@@ -139,6 +139,7 @@ impl<B: Naming> Totals<B> {
     pub fn settle(self, tallies: Vec<Tally<B>>) -> bool
         ensures exact { IsTrue result ↔ AddUpTo self.results tallies.items }
         ensures all { vec_len tallies ≡ self.given → IsTrue result }
+        ensures few { vec_len tallies ≤ self.given }
     {
         let Totals {
             results,

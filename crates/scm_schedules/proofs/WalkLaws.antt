@@ -9,10 +9,10 @@ use Rattle.scm_sequences.specs.Ops.{NamesCellsBelow}
 use Rattle.scm_sequences.specs.Sequences.{lengths_of}
 use Rattle.scm_sequences.specs.Traces.{Trace}
 use Rattle.scm_sequences.specs.Fronts.{IsLegal, IsSchedule}
-use Rattle.scm_sequences.specs.FrontLaws.{IsLegal-start, IsLegal-suffix}
+use Rattle.scm_sequences.specs.laws.FrontLaws.{IsLegal-start, IsLegal-suffix}
 use Rattle.scm_frontier.specs.Situated.{Situated, situation_of}
 use Rattle.scm_frontier.specs.Steps.{start_of}
-use Rattle.scm_frontier.specs.StepLaws.{situation_of-start, counts-situation_of}
+use Rattle.scm_frontier.specs.laws.StepLaws.{situation_of-start, counts-situation_of}
 use Rattle.scm_schedules.specs.Walks.{step_by}
 use Rattle.scm_schedules.proofs.FrontSteps.{EndsIn, step_by-some, step_by-none}
 

@@ -1,9 +1,8 @@
+pub mod laws
 pub mod Leading
-pub mod LeadingLaws
 pub mod Walks
 pub mod Picking
 pub mod Refuting
-pub mod RefutingLaws
 pub use Rattle.scm_frontier.specs.Situated
 pub use Rattle.scm_frontier.specs.Steps
 pub use Rattle.scm_frontier.specs.Comparisons

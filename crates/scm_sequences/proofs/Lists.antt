@@ -3,7 +3,7 @@ use Rattle.std.proofs.Common.{ℕ, ◌≡◌, ◌<◌, ◌≤◌, Bool, true, fa
 use Rattle.std.proofs.lemmas.List.{map-set, set-get_or, get_or-map, length-map, length-take-le, get_or-take, ext_get_or}
 use Rattle.scm_sequences.specs.declared.op.Op.{Op}
 use Rattle.scm_sequences.specs.Sequences.{operations, pushed, lengths_of}
-use Rattle.scm_sequences.specs.SequenceLaws.{length-lengths_of}
+use Rattle.scm_sequences.specs.laws.SequenceLaws.{length-lengths_of}
 
 -- the sequences of these vectors
 abbrev pub sequences_of : List (Vec Op Global) → List (List Op)

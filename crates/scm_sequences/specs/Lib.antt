@@ -1,12 +1,8 @@
+pub mod laws
 pub mod Refusals
 pub mod Ops
 pub mod Lengths
 pub mod Sequences
-pub mod SequenceLaws
-pub mod LengthLaws
 pub mod Traces
 pub mod Fronts
 pub mod FixedValues
-pub mod FixedLaws
-pub mod FrontLaws
-pub mod CutLaws

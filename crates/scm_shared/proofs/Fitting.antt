@@ -8,7 +8,7 @@ use lib.ListN.{get_elem?}
 use Rattle.atomic_table.proofs.Lists.{at_set}
 use Rattle.scm_book.specs.Calls.{EntryData}
 use Rattle.scm_book.specs.Callers.{calls_by}
-use Rattle.scm_book.specs.CallerLaws.{calls_by-append, calls_by-entry_own, calls_by-entry_other}
+use Rattle.scm_book.specs.laws.CallerLaws.{calls_by-append, calls_by-entry_own, calls_by-entry_other}
 use Rattle.scm_shared.specs.Passes.{Known, known, newcomer, at_front}
 use Rattle.scm_shared.specs.Rule.{SeatView, keeper, holder, nobody, Fits, AllFit, AllGiven, FitsView, holds}
 use Rattle.scm_shared.specs.Steps.{but_last, last_only, caught_up, called, all_called, all_caught_up, all_at_front}

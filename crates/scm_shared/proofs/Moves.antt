@@ -14,7 +14,7 @@ use Rattle.atomic_table.specs.Table.{State, Me, step, Allows, Splits, Joins, kee
 use Rattle.scm_book.specs.declared.entry.Entry.{Entry}
 use Rattle.scm_book.specs.Calls.{EntryData, entry_data}
 use Rattle.scm_book.specs.Callers.{calls_by}
-use Rattle.scm_book.specs.CallerLaws.{calls_by-entry_other}
+use Rattle.scm_book.specs.laws.CallerLaws.{calls_by-entry_other}
 use Rattle.scm_shared.specs.Passes.{Known, newcomer}
 use Rattle.scm_shared.specs.Rule.{SeatView, keeper, holder, nobody, Fits, AllFit, AllGiven, FitsView, holds, KeptAs, Kept}
 use Rattle.scm_shared.specs.Steps.{with_one_more, next_newcomer, both, staying, parted, called, with_entry, TellsCommit, all_caught_up, TellsHistory, all_at_front, TellsFront}

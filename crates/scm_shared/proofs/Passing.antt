@@ -10,7 +10,7 @@ use Rattle.scm_book.specs.Calls.{CallData, ReplyData, EntryData, call_data, repl
 use Rattle.scm_book.specs.Machine.{Machine}
 use Rattle.scm_book.specs.Journal.{entered, IsLegalHistory}
 use Rattle.scm_book.specs.Callers.{calls_by, pair_data, IsHistory}
-use Rattle.scm_book.specs.CallerLaws.{calls_by-entry_own}
+use Rattle.scm_book.specs.laws.CallerLaws.{calls_by-entry_own}
 use Rattle.scm_shared.specs.Passes.{Known, known, Extended}
 use Rattle.scm_shared.specs.Rule.{Fits}
 

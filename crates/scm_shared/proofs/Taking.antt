@@ -5,7 +5,7 @@ use Rattle.std.specs.List.{AllZip}
 use Rattle.scm_results.specs.declared.results.Results.{Results}
 use Rattle.scm_results.specs.declared.fate.Fate.{Fate}
 use Rattle.scm_results.specs.Totals.{capped, none_counted, with_fate, sum_of, delivered_of}
-use Rattle.scm_results.specs.TotalLaws.{delivered_of-with_fate, delivered_of-sum_of}
+use Rattle.scm_results.specs.laws.TotalLaws.{delivered_of-with_fate, delivered_of-sum_of}
 use Rattle.scm_results.specs.Tallies.{Counted, RisesAlike}
 use Rattle.scm_expand.specs.declared.task.Task.{Task}
 use Rattle.scm_expand.specs.Outcomes.{Expanded}

@@ -2,6 +2,6 @@ pub mod Passes
 pub mod Rule
 pub mod Steps
 pub mod Seats
-pub mod Desks
+pub mod Locking
 pub mod Audits
 pub mod Meeting

@@ -12,8 +12,8 @@ ghost use Rattle.scm_shared.specs.Audits.{covers, AllFollow, Agree};
 ghost use Rattle.scm_shared.specs.Meeting.{AreInOrder, AreCounted};
 
 use crate::comparing::{follows, is_next};
-use crate::desk::Desk;
-use crate::hall::Hall;
+use crate::length_word::LengthWord;
+use crate::locked::Locked;
 use crate::word::View;
 use crate::{BookNaming, Made, Pass};
 use atomic_table::Seat;
@@ -118,7 +118,7 @@ fn agree<B: BookNaming>(passes: &Vec<Pass<B>>, entries: &[Entry]) -> bool
 
 /// Takes a pass apart, which fits the journal.
 fn take_in<B: BookNaming>(
-    hall: &Hall<B>,
+    length_word: &LengthWord<B>,
     seat: &mut Seat<Entry, View>,
     all: &mut Share<Made<B>>,
     pass: Pass<B>,
@@ -135,19 +135,24 @@ fn take_in<B: BookNaming>(
         share,
         ..
     } = pass;
-    hall.catch_up(seat, &mut badge);
+    length_word.catch_up(seat, &mut badge);
     all.merge(share);
 }
 
-impl<B: BookNaming> Desk<B> {
-    /// Takes the desk apart, and compares the passes with the journal and the tallies with the totals. That the calls of every
+impl<B: BookNaming> Locked<B> {
+    /// Takes apart what the lock holds, and compares the passes with the journal and the tallies with the totals. That the calls of every
     /// pass are its session's entries is proved, by the rule of the counting word, and looked at all the same.
-    pub(crate) fn audit(self, hall: &Hall<B>, passes: Vec<Pass<B>>, tallies: Vec<Tally<B>>) -> Audit
+    pub(crate) fn audit(
+        self,
+        length_word: &LengthWord<B>,
+        passes: Vec<Pass<B>>,
+        tallies: Vec<Tally<B>>,
+    ) -> Audit
         ensures book { result.book ≡ self.book }
         ensures entered { result.entered ≡ self.entered }
         ensures most_entered { (vec_len passes ≤ result.entered) × (result.entered ≤ MOST_SESSIONS) }
         ensures tallies { result.tallies ≡ self.totals.given }
-        ensures most_tallies { result.tallies ≤ MOST_TALLIES }
+        ensures most_tallies { (vec_len tallies ≤ result.tallies) × (result.tallies ≤ MOST_TALLIES) }
         ensures legal { IsLegalBook result.book }
         ensures fits { All (λ pass. Fits result.book.journal pass) passes.items }
         ensures numbers { All (λ pass. pass.number < result.entered) passes.items }
@@ -157,7 +162,7 @@ impl<B: BookNaming> Desk<B> {
         ensures totals_agreed { IsTrue result.totals_agreed ↔ AddUpTo result.book.results tallies.items }
         ensures all_tallies { vec_len tallies ≡ result.tallies → IsTrue result.totals_agreed }
     {
-        let Desk {
+        let Locked {
             book,
             entered,
             mut seat,
@@ -167,7 +172,7 @@ impl<B: BookNaming> Desk<B> {
         } = self;
         let agreed = agree(&passes, book.entries());
         for pass in passes {
-            take_in(hall, &mut seat, &mut all, pass);
+            take_in(length_word, &mut seat, &mut all, pass);
         }
         made.audit(&mut all);
         Audit {

@@ -3,8 +3,8 @@
 
 mod audit;
 mod comparing;
-mod desk;
-mod hall;
+mod length_word;
+mod locked;
 mod naming;
 mod pass;
 mod rest;

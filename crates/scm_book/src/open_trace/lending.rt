@@ -6,13 +6,13 @@ ghost use Rattle.scm_sequences.specs.Traces.{trace_of};
 ghost use Rattle.scm_cells.specs.CellLists.{initials_of};
 ghost use Rattle.scm_reach.specs.Kept.{IsKept};
 ghost use Rattle.scm_book.specs.Sets.{asked_lengths};
-ghost use Rattle.scm_book.specs.Inquiries.{IsAlike, IsMore, Lends, TakesBack, TakesSet};
+ghost use Rattle.scm_book.specs.Loans.{IsAlike, IsMore, Lends, TakesBack, TakesSet};
 
 use super::asking::lengths_at;
 use super::{OpenTrace, Purpose};
 use crate::copying::{copy_of_lengths, copy_of_sequences};
-use crate::earlier::Earlier;
-use crate::inquiry::Inquiry;
+use crate::known_schedules::KnownSchedules;
+use crate::loan::Loan;
 use crate::proposing::Proposing;
 use scm_cells::{Cells, Name};
 use scm_reach::Reach;
@@ -30,9 +30,9 @@ impl OpenTrace {
         name: Name,
         mark: Option<u64>,
         purpose: Purpose,
-    ) -> Option<Inquiry>
+    ) -> Option<Loan>
         ensures state { self.new.state ≡ self.old.state }
-        ensures lends { MatchOption result (self.new.set ≡ self.old.set) (λ inquiry. Lends name mark self.old.state self.old.set inquiry self.new.set) }
+        ensures lends { MatchOption result (self.new.set ≡ self.old.set) (λ loan. Lends name mark self.old.state self.old.set loan self.new.set) }
     {
         let _most = self.most_steps();
         let lengths = self.lengths_of_question(alloc, mark)?;
@@ -46,8 +46,8 @@ impl OpenTrace {
         let Ok(start) = Reach::new(alloc, &self.cells, &self.sequences) else {
             return None;
         };
-        self.attention.lend(purpose);
-        Some(Inquiry {
+        self.loan_state.lend(purpose);
+        Some(Loan {
             alloc,
             name,
             sequences,
@@ -91,22 +91,22 @@ impl OpenTrace {
 
     /// Whether its set is to be lent for work, as far as can be told with no look at it.
     pub(crate) fn may_want_work(&self) -> bool {
-        self.attention.may_want_work() && self.budget.room(self.reach.held())
+        self.loan_state.may_want_work() && self.budget.room(self.reach.held())
     }
 
     /// The set, to be searched elsewhere for what questions will want. `None`, with everything as it was, where it is settled,
     /// a schedule is known or memory is refused. It isn't asked for again until it grows.
-    pub(crate) fn lend_work(&mut self, alloc: Global, name: Name) -> Option<Inquiry>
+    pub(crate) fn lend_work(&mut self, alloc: Global, name: Name) -> Option<Loan>
         ensures state { self.new.state ≡ self.old.state }
-        ensures lends { MatchOption result (self.new.set ≡ self.old.set) (λ inquiry. Lends name None self.old.state self.old.set inquiry self.new.set) }
+        ensures lends { MatchOption result (self.new.set ≡ self.old.set) (λ loan. Lends name None self.old.state self.old.set loan self.new.set) }
     {
-        self.attention.look();
+        self.loan_state.look();
         self.lend(alloc, name, None, Purpose::Work)
     }
 
     /// Whether a question has to wait until the set is back: it is lent for work, and no schedule is known.
     pub(crate) fn awaits_set(&self, alloc: Global, mark: Option<u64>) -> bool {
-        self.attention.is_at_work() && matches!(self.has_schedule(alloc, mark), Some(false))
+        self.loan_state.is_at_work() && matches!(self.has_schedule(alloc, mark), Some(false))
     }
 
     /// Whether a schedule is known of what a question is about, where that is there.
@@ -133,11 +133,11 @@ impl OpenTrace {
 
     /// Takes a question back that may have been lent of another trace: its set stands in the place of the present one where
     /// it holds more, once it is cut to what both traces have in common, and no more than the budget.
-    pub(crate) fn take_back(&mut self, inquiry: Inquiry)
+    pub(crate) fn take_back(&mut self, loan: Loan)
         ensures state { self.new.state ≡ self.old.state }
-        ensures takes { TakesBack self.old.state inquiry self.old.set self.new.set }
+        ensures takes { TakesBack self.old.state loan self.old.set self.new.set }
     {
-        let Inquiry {
+        let Loan {
             alloc: _,
             name: _,
             sequences,
@@ -147,8 +147,8 @@ impl OpenTrace {
             mut earlier,
             purpose,
             is_unfinished,
-        } = inquiry;
-        self.attention.take_back(purpose, is_unfinished);
+        } = loan;
+        self.loan_state.take_back(purpose, is_unfinished);
         self.take_found(&sequences, limit, &mut reach, &mut earlier);
         drop(earlier);
         drop(reach);
@@ -162,7 +162,7 @@ impl OpenTrace {
         sequences: &Sequences,
         limit: usize,
         reach: &mut Reach,
-        earlier: &mut Earlier,
+        earlier: &mut KnownSchedules,
     )
         requires { IsKept (trace_of reach.old.initials sequences.now) reach.old.members }
         ensures state { self.new.state ≡ self.old.state }

@@ -1,19 +1,19 @@
 //! Questions that are searched beside the traces.
 ghost use Rattle.std.specs.Prelude.{◌≡◌, None, MatchOption};
 ghost use Rattle.scm_book.specs.Sets.{machine_in, sets_in};
-ghost use Rattle.scm_book.specs.Inquiries.{IsLentOf, IsTakenBack};
+ghost use Rattle.scm_book.specs.Loans.{IsLentOf, IsTakenBack};
 
 use super::Traces;
-use crate::inquiry::Inquiry;
+use crate::loan::Loan;
 use crate::open_trace::Purpose;
 use scm_cells::Name;
 
 impl Traces {
     /// The question about the trace of this name, to be searched elsewhere. `None`, with everything as it was, where there
     /// is no such trace or the trace lends none.
-    pub(crate) fn lend(&mut self, name: &Name, mark: Option<u64>) -> Option<Inquiry>
+    pub(crate) fn lend(&mut self, name: &Name, mark: Option<u64>) -> Option<Loan>
         ensures machine { machine_in self.new ≡ machine_in self.old }
-        ensures lends { MatchOption result (sets_in self.new ≡ sets_in self.old) (λ inquiry. IsLentOf (machine_in self.old) (sets_in self.old) name.now mark inquiry (sets_in self.new)) }
+        ensures lends { MatchOption result (sets_in self.new ≡ sets_in self.old) (λ loan. IsLentOf (machine_in self.old) (sets_in self.old) name.now mark loan (sets_in self.new)) }
     {
         let trace = self.traces.get_mut(name)?;
         trace.lend(self.alloc, *name, mark, Purpose::Answer)
@@ -41,9 +41,9 @@ impl Traces {
 
     /// The set of a trace, lent for work. `None`, with everything as it was, where none wants any, or the first one that might
     /// turns out not to.
-    pub(crate) fn lend_work(&mut self) -> Option<Inquiry>
+    pub(crate) fn lend_work(&mut self) -> Option<Loan>
         ensures machine { machine_in self.new ≡ machine_in self.old }
-        ensures lends { MatchOption result (sets_in self.new ≡ sets_in self.old) (λ inquiry. IsLentOf (machine_in self.old) (sets_in self.old) inquiry.name None inquiry (sets_in self.new)) }
+        ensures lends { MatchOption result (sets_in self.new ≡ sets_in self.old) (λ loan. IsLentOf (machine_in self.old) (sets_in self.old) loan.name None loan (sets_in self.new)) }
     {
         let name = self.wanting()?;
         let trace = self.traces.get_mut(&name)?;
@@ -59,14 +59,14 @@ impl Traces {
     }
 
     /// Takes a question back, whatever happened since.
-    pub(crate) fn take_back(&mut self, inquiry: Inquiry)
+    pub(crate) fn take_back(&mut self, loan: Loan)
         ensures machine { machine_in self.new ≡ machine_in self.old }
-        ensures takes { IsTakenBack (machine_in self.old) (sets_in self.old) inquiry (sets_in self.new) }
+        ensures takes { IsTakenBack (machine_in self.old) (sets_in self.old) loan (sets_in self.new) }
     {
-        let Some(trace) = self.traces.get_mut(&inquiry.name) else {
-            drop(inquiry);
+        let Some(trace) = self.traces.get_mut(&loan.name) else {
+            drop(loan);
             return;
         };
-        trace.take_back(inquiry);
+        trace.take_back(loan);
     }
 }

@@ -1,4 +1,4 @@
-use Rattle.scm_sequences.specs.CutLaws.{count_in-cut, IsLegal-cut, IsLegal-from_cut}
+use Rattle.scm_sequences.specs.laws.CutLaws.{count_in-cut, IsLegal-cut, IsLegal-from_cut}
 use Rattle.scm_sequences.proofs.laws.restriction.Goals as goal
 
 pub returns : goal.returns

@@ -1,4 +1,4 @@
-use Rattle.scm_sequences.specs.FixedLaws.{IsLegal-given, IsLegal-given_some, IsConsistent-given_some, IsLegal-given_in_width, IsConsistent-given_in_width}
+use Rattle.scm_sequences.specs.laws.FixedLaws.{IsLegal-given, IsLegal-given_some, IsConsistent-given_some, IsLegal-given_in_width, IsConsistent-given_in_width}
 use Rattle.scm_sequences.proofs.laws.unset_cells.Goals as goal
 
 pub returns : goal.returns

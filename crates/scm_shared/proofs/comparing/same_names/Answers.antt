@@ -1,5 +1,5 @@
 use Rattle.std.proofs.lemmas.Slice.Eq.{slice_eq-Decides}
-use Rattle.scm_cells.specs.NameLaws.{name_eq-Decides}
+use Rattle.scm_cells.specs.laws.NameLaws.{name_eq-Decides}
 use Rattle.scm_shared.proofs.comparing.same_names.Goals as goal
 
 pub returns : goal.returns

@@ -1,5 +1,5 @@
 use Rattle.scm_book.specs.Calls.{call_data, reply_data}
-use Rattle.scm_book.specs.ReplyLaws.{IsCall-good, IsCall-sessions}
+use Rattle.scm_book.specs.laws.ReplyLaws.{IsCall-good, IsCall-sessions}
 use Rattle.scm_book.proofs.book.Book.call.Goals as goal
 
 pub returns-clause-good : goal.returns-clause-good

@@ -2,7 +2,7 @@ use Rattle.std.proofs.Common.{refl, rules, sym, subst}
 use Rattle.scm_sequences.specs.declared.refusal.Refusal.TheVariants.{JournalFull, NoMemory}
 use Rattle.scm_book.specs.Calls.{call_data, reply_data, refused}
 use Rattle.scm_book.specs.Journal.{BookState, IsCall}
-use Rattle.scm_book.specs.ReplyLaws.{IsCall-good, IsCall-sessions}
+use Rattle.scm_book.specs.laws.ReplyLaws.{IsCall-good, IsCall-sessions}
 use Rattle.scm_book.proofs.Calling.{unreached-full, unreached-no_memory}
 use Rattle.scm_book.proofs.book.Book.call_kept.Goals as goal
 

@@ -1,7 +1,7 @@
 use Rattle.scm_book.proofs.Sounding.{mark_in, IsWithin-mark, IsSoundTrace-back}
 use Rattle.std.proofs.Common.{length}
 use Rattle.scm_book.proofs.Keeping.{kept_of, IsKeptFor-cut}
-use Rattle.scm_book.proofs.EarlierLaws.{sum-cut}
+use Rattle.scm_book.proofs.KnownSchedulesLaws.{sum-cut}
 use Rattle.scm_book.proofs.open_trace.OpenTrace.back.Goals as goal
 
 pub cut-requires : goal.cut-requires

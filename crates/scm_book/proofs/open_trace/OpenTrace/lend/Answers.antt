@@ -3,7 +3,7 @@ use Rattle.scm_sequences.specs.declared.op.Op.{Op}
 use Rattle.scm_sequences.specs.Traces.{trace_of}
 use Rattle.scm_cells.specs.CellLists.{initials_of}
 use Rattle.scm_reach.specs.Kept.{Kept}
-use Rattle.scm_book.specs.Inquiries.{CanSearch}
+use Rattle.scm_book.specs.Loans.{CanSearch}
 use Rattle.scm_book.specs.Machine.{TraceState}
 use Rattle.scm_book.specs.Sets.{KeptTrace, asked_lengths, most_steps}
 use Rattle.scm_book.specs.Sound.{IsSoundTrace, IsKeptFor}

@@ -6,7 +6,7 @@ use Rattle.scm_book.specs.Machine.{TraceState}
 use Rattle.scm_book.specs.Refusals.{question_cause}
 use Rattle.scm_book.specs.Sets.{KeptTrace, asked_lengths, most_steps}
 use Rattle.scm_book.proofs.AskedLengths.{asked, cause_none, can_ask, asks_for, IsWithin-asked}
-use Rattle.scm_book.proofs.EarlierLaws.{sum-kept}
+use Rattle.scm_book.proofs.KnownSchedulesLaws.{sum-kept}
 use Rattle.scm_book.proofs.open_trace.OpenTrace.question.Goals as goal
 
 pub answer-requires : goal.answer-requires

@@ -1,9 +1,9 @@
 use Rattle.std.proofs.Common.{ℕ, ◌≤◌, length, sum, sym, subst, Vec}
 use Rattle.scm_sequences.specs.Sequences.{lengths_of}
-use Rattle.scm_lowering.specs.Laws.{lowered-cell}
+use Rattle.scm_lowering.specs.laws.LoweringLaws.{lowered-cell}
 use Rattle.scm_book.proofs.Sounding.{IsSoundTrace-push}
 use Rattle.scm_book.proofs.Keeping.{IsKeptFor-grown}
-use Rattle.scm_book.proofs.EarlierLaws.{sum-push}
+use Rattle.scm_book.proofs.KnownSchedulesLaws.{sum-push}
 use Rattle.scm_book.proofs.open_trace.OpenTrace.report.Goals as goal
 
 pub invariant_of-self-2 : goal.invariant_of-self-2

@@ -1,7 +1,7 @@
 use Rattle.std.proofs.Common.{◌≡◌, true, false, is_some, arith, inl, refl, sym, ◌∙◌}
 use Rattle.indexmap.specs.IndexMap.{get_by}
 use Rattle.scm_cells.specs.Names.{name_eq}
-use Rattle.scm_cells.specs.CellLaws.{AreCells-add}
+use Rattle.scm_cells.specs.laws.CellLaws.{AreCells-add}
 use Rattle.scm_cells.proofs.CellMaps.{OnOk-at, add_refusal-full, add_refusal-taken, add_refusal-None, cells_in-insert}
 use Rattle.scm_cells.proofs.cells.Cells.add.Goals as goal
 use Rattle.scm_cells.proofs.cells.Cells.add.Goals.{then-is_taken-via-then-is_taken, then-is_taken-via-else-is_taken+then-place-ge-MOST_CELLS}

@@ -1,6 +1,6 @@
 use Rattle.std.proofs.Common.{◌≡◌, ◌∙◌, min, length, slice_index, ap, arith}
 use Rattle.scm_sequences.specs.Sequences.{operations, cut_lists}
-use Rattle.scm_sequences.specs.SequenceLaws.{length-operations_cut}
+use Rattle.scm_sequences.specs.laws.SequenceLaws.{length-operations_cut}
 use Rattle.scm_sequences.specs.Traces.{Trace}
 use Rattle.scm_orders.proofs.cut_trace.CutTrace.count.Goals as goal
 

@@ -1,6 +1,6 @@
 use Rattle.std.proofs.Common.{◌∙◌, sym, ap, arith}
 use Rattle.scm_sequences.specs.Sequences.{operation}
-use Rattle.scm_sequences.specs.SequenceLaws.{operation-cut_lists, operation-cut_lists_past}
+use Rattle.scm_sequences.specs.laws.SequenceLaws.{operation-cut_lists, operation-cut_lists_past}
 use Rattle.scm_sequences.specs.Traces.{Trace}
 use Rattle.scm_orders.proofs.cut_trace.CutTrace.operation.Goals as goal
 

@@ -1,5 +1,5 @@
 use Rattle.std.proofs.Common.{◌∙◌, length, sym, ap}
-use Rattle.scm_sequences.specs.SequenceLaws.{length-cut_lists}
+use Rattle.scm_sequences.specs.laws.SequenceLaws.{length-cut_lists}
 use Rattle.scm_sequences.specs.Traces.{Trace}
 use Rattle.scm_orders.proofs.cut_trace.CutTrace.procs.Goals as goal
 

@@ -1,4 +1,4 @@
-use Rattle.std.proofs.Common.{◌≡◌, ◌+◌, length, sum_by}
+use Rattle.std.proofs.Common.{◌≡◌, ◌+◌, ◌≤◌, length, sum_by}
 use Rattle.scm_results.specs.Totals.{delivered_of}
 use Rattle.scm_results.specs.declared.limits.TheConstants.{MOST_TALLIES}
 use Rattle.scm_results.proofs.totals.Totals.settle.Given as goal
@@ -9,6 +9,7 @@ invariant-loop-tally g l =
     × (l.delivered.total ≡ delivered_of l.results)
     × (l.all_of_taken.parts + l.fn.self.given ≡ MOST_TALLIES + 1 + length l.yielded)
     × (l.all_of_delivered.parts + l.fn.self.given ≡ MOST_TALLIES + 1 + length l.yielded)
+    × (l.all_of_taken.parts ≤ MOST_TALLIES + 1)
     × (l.all_of_taken.amount ≡ l.taken_sum)
     × (l.all_of_delivered.amount ≡ l.delivered_sum)
     × (l.taken_sum ≡ sum_by (λ t. t.taken) l.yielded)

@@ -1,6 +1,6 @@
 use Rattle.std.proofs.Common.{length, slice_index, sym, ◌∙◌}
 use Rattle.scm_sequences.specs.Sequences.{cut_lists}
-use Rattle.scm_sequences.specs.SequenceLaws.{NamesCellsBelow-operation, NamesCellsBelow-cut_lists}
+use Rattle.scm_sequences.specs.laws.SequenceLaws.{NamesCellsBelow-operation, NamesCellsBelow-cut_lists}
 use Rattle.scm_schedules.proofs.walk.Walk.open_read.Goals as goal
 
 pub open_read_of-requires : goal.open_read_of-requires

@@ -2,7 +2,7 @@ use Rattle.std.proofs.Common.{◌≡◌, ◌≤◌, length, arith, subst, sym}
 use Rattle.std.proofs.lemmas.Grind.{common_steps}
 use Rattle.scm_sequences.specs.declared.limits.TheConstants.{MOST_OPERATIONS}
 use Rattle.scm_sequences.specs.Sequences.{operations, AreSequences}
-use Rattle.scm_sequences.specs.SequenceLaws.{AreSequences-short}
+use Rattle.scm_sequences.specs.laws.SequenceLaws.{AreSequences-short}
 use Rattle.scm_sequences.proofs.sequences.Sequences.count.Goals as goal
 
 pub returns-clause-most : goal.returns-clause-most

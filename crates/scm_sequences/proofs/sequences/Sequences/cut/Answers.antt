@@ -3,7 +3,7 @@ use Rattle.std.specs.Vec.{with_items}
 use Rattle.std.proofs.lemmas.List.{map-set, get_or-set_same, get_or-set_other, ext_get_or, with_items_is}
 use Rattle.scm_sequences.specs.declared.op.Op.{Op}
 use Rattle.scm_sequences.specs.Sequences.{operations, cut_lists, AreSequences}
-use Rattle.scm_sequences.specs.SequenceLaws.{length-cut_lists, operations-cut_lists, AreSequences-cut_lists}
+use Rattle.scm_sequences.specs.laws.SequenceLaws.{length-cut_lists, operations-cut_lists, AreSequences-cut_lists}
 use Rattle.scm_sequences.proofs.Lists.{sequences_of, operations-sequences_of, length-sequences_of}
 use Rattle.scm_sequences.proofs.sequences.Sequences.cut.Goals as goal
 

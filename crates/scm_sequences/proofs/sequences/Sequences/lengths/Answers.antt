@@ -2,7 +2,7 @@ use Rattle.std.proofs.Common.{◌≡◌, ◌<◌, ◌≤◌, ◌≢◌, List, le
 use Rattle.std.proofs.lemmas.List.{get_or-set_same, get_or-set_other, length-set}
 use Rattle.scm_sequences.specs.declared.op.Op.{Op}
 use Rattle.scm_sequences.specs.Sequences.{operations, AreSequences, lengths_of}
-use Rattle.scm_sequences.specs.SequenceLaws.{AreSequences-short, slice_index-lengths_of}
+use Rattle.scm_sequences.specs.laws.SequenceLaws.{AreSequences-short, slice_index-lengths_of}
 use Rattle.scm_sequences.proofs.Lists.{sequences_of, operations-sequences_of, lengths_of-counted, length-sequences_of}
 use Rattle.scm_sequences.proofs.sequences.Sequences.lengths.Goals as goal
 

@@ -3,7 +3,7 @@ use Rattle.std.proofs.lemmas.Grind.{common_steps}
 use Rattle.scm_sequences.specs.declared.op.Op.{Op}
 use Rattle.scm_sequences.specs.declared.limits.TheConstants.{MOST_OPERATIONS}
 use Rattle.scm_sequences.specs.Sequences.{AreSequences, pushed, operations, push_refusal}
-use Rattle.scm_sequences.specs.SequenceLaws.{AreSequences-pushed, push_refusal-from_room}
+use Rattle.scm_sequences.specs.laws.SequenceLaws.{AreSequences-pushed, push_refusal-from_room}
 use Rattle.scm_sequences.proofs.Lists.{sequences_of, sequences_of-set, operations-sequences_of, length-sequences_of, OnOk-from, OnErr-from}
 use Rattle.scm_sequences.proofs.sequences.Sequences.push.Goals as goal
 

@@ -1,6 +1,0 @@
-use Rattle.std.proofs.Common.{◌≤◌, sum, take}
-use Rattle.scm_book.proofs.earlier.operations_in.Given as goal
-
--- no more than the lengths so far
-abbrev pub invariant-loop-p : goal.invariant-loop-p
-invariant-loop-p l = l.operations ≤ sum (take l.p l.lengths)

@@ -1,0 +1,2 @@
+pub mod CallerLaws
+pub mod ReplyLaws

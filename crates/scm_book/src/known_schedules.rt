@@ -1,0 +1,191 @@
+//! What is kept for the next proposal.
+ghost use Rattle.std.specs.Prelude.{◌≡◌, ◌≤◌, [], length, max, sum};
+
+use crate::Reply;
+use scm_sequences::Lengths;
+use std::alloc::Global;
+use std::mem;
+
+/// The longest schedule that was found for a trace, where none was found, and the order in which its operations were
+/// reported. It is no part of the machine, and nothing rests on it: what a proposal makes of it is judged anew.
+#[derive(Drop)]
+pub(crate) struct KnownSchedules {
+    schedule: Vec<u8>,
+    /// The process of each operation, in the order of the reports, which is often that of their happening. `None` once
+    /// memory was refused for it.
+    reported: Option<Vec<u8>>,
+    /// At how many operations no schedule was found. Nothing changed since, for any lengths with as many operations: the
+    /// lengths that a trace can be asked about lie within one another.
+    failed: Option<u64>,
+    /// At how many operations no schedule was found where all of the budget might have been spent on one, at last.
+    failed_whole: Option<u64>,
+    /// How often the trace was cut.
+    cuts: u64,
+}
+
+/// All of the budget may be spent once more on a proposal where the set is full when the trace has grown by this part of itself.
+const PART: u64 = 64;
+
+impl KnownSchedules {
+    /// No schedule and no operation yet.
+    pub(crate) fn new(alloc: Global) -> KnownSchedules
+        ensures { result.schedule.items ≡ [] }
+    {
+        KnownSchedules {
+            schedule: Vec::new(alloc),
+            reported: Some(Vec::new(alloc)),
+            failed: None,
+            failed_whole: None,
+            cuts: 0,
+        }
+    }
+
+    /// A copy.
+    pub(crate) fn copy(&self) -> Option<KnownSchedules> {
+        let alloc = *self.schedule.allocator();
+        let reported = match &self.reported {
+            Some(reported) => Vec::from_slice(alloc, reported).ok(),
+            None => None,
+        };
+        Some(KnownSchedules {
+            schedule: Vec::from_slice(alloc, &self.schedule).ok()?,
+            reported,
+            failed: self.failed,
+            failed_whole: self.failed_whole,
+            cuts: self.cuts,
+        })
+    }
+
+    pub(crate) fn schedule(&self) -> &[u8] {
+        &self.schedule
+    }
+
+    /// The schedule, where it has as many operations as there are within the lengths.
+    pub(crate) fn whole_schedule(&self, lengths: &Lengths) -> Option<&[u8]> {
+        if self.schedule.len() as u64 == operations_in(lengths) {
+            Some(&self.schedule)
+        } else {
+            None
+        }
+    }
+
+    /// An operation of this process was reported.
+    pub(crate) fn report(&mut self, process: usize)
+        ensures { self.new.schedule ≡ self.old.schedule }
+    {
+        if self.keep_report(process).is_none() {
+            self.reported = None;
+        }
+    }
+
+    fn keep_report(&mut self, process: usize) -> Option<()>
+        ensures { self.new.schedule ≡ self.old.schedule }
+    {
+        let place = u8::try_from(process).ok()?;
+        self.reported.as_mut()?.push(place).ok()
+    }
+
+    /// The operations within the lengths, in the order in which they were reported: the first ones, since a trace can be asked
+    /// about as it is or as it stood.
+    pub(crate) fn reported(&self, lengths: &Lengths) -> Option<&[u8]> {
+        let reported = self.reported.as_ref()?;
+        reported.get(..operations_in(lengths) as usize)
+    }
+
+    /// Whether no schedule was found at these lengths, and nothing changed since.
+    pub(crate) fn has_failed(&self, lengths: &Lengths) -> bool {
+        self.failed == Some(operations_in(lengths))
+    }
+
+    /// What comes of the reply to a question about the trace cut to these lengths.
+    pub(crate) fn learn(&mut self, reply: &Reply, lengths: &Lengths)
+        ensures { length self.new.schedule.items ≤ max (length self.old.schedule.items) (sum lengths.now) }
+    {
+        match reply {
+            Reply::Consistent { schedule, .. } => self.keep(schedule, lengths),
+            _ => self.fail(lengths),
+        }
+    }
+
+    /// No schedule was found at these lengths.
+    pub(crate) fn fail(&mut self, lengths: &Lengths)
+        ensures { self.new.schedule ≡ self.old.schedule }
+    {
+        let operations = operations_in(lengths);
+        if self.may_try_whole(lengths) {
+            self.failed_whole = Some(operations);
+        }
+        self.failed = Some(operations);
+    }
+
+    /// Whether all of the budget may be spent on a proposal though the set is full.
+    pub(crate) fn may_try_whole(&self, lengths: &Lengths) -> bool {
+        match self.failed_whole {
+            Some(before) => operations_in(lengths) > before.saturating_add(before / PART),
+            None => true,
+        }
+    }
+
+    /// Keeps a copy of a schedule of the trace cut to these lengths that isn't shorter, where there is memory for it.
+    pub(crate) fn keep(&mut self, schedule: &[u8], lengths: &Lengths)
+        ensures { length self.new.schedule.items ≤ max (length self.old.schedule.items) (sum lengths.now) }
+    {
+        let fits = schedule.len() as u64 <= operations_in(lengths);
+        if !fits || schedule.len() < self.schedule.len() {
+            return;
+        }
+        if let Ok(copy) = Vec::from_slice(*self.schedule.allocator(), schedule) {
+            self.schedule = copy;
+            self.retry();
+        }
+    }
+
+    /// The trace is cut to these lengths. Of the schedule no more is kept than a schedule of them has; of the reports, the
+    /// first ones, which led to these lengths.
+    pub(crate) fn cut(&mut self, lengths: &Lengths)
+        ensures { length self.new.schedule.items ≤ sum lengths.now }
+    {
+        let operations = operations_in(lengths) as usize;
+        self.schedule.truncate(operations);
+        if let Some(reported) = &mut self.reported {
+            reported.truncate(operations);
+        }
+        self.cuts = self.cuts.saturating_add(1);
+        self.failed = None;
+        self.failed_whole = None;
+    }
+
+    /// Takes the schedule of another one, which began as a copy of this one, where it isn't shorter, as far as the trace has
+    /// as many operations; and where nothing changed since, what failed.
+    pub(crate) fn take_back(&mut self, other: &mut KnownSchedules, present: &Lengths, is_same: bool)
+        ensures { length self.new.schedule.items ≤ max (length self.old.schedule.items) (sum present.now) }
+    {
+        other.schedule.truncate(operations_in(present) as usize);
+        if other.schedule.len() >= self.schedule.len() {
+            mem::swap(&mut self.schedule, &mut other.schedule);
+        }
+        if is_same && other.cuts == self.cuts {
+            self.failed = other.failed;
+            self.failed_whole = other.failed_whole;
+        }
+    }
+
+    /// A proposal may find more than before.
+    pub(crate) fn retry(&mut self)
+        ensures { self.new.schedule ≡ self.old.schedule }
+    {
+        self.failed = None;
+        self.failed_whole = None;
+    }
+}
+
+/// How many operations lie within the lengths.
+fn operations_in(lengths: &Lengths) -> u64
+    ensures { result ≤ sum lengths.now }
+{
+    let mut operations: u64 = 0;
+    for p in 0..lengths.procs() {
+        operations = operations.saturating_add(u64::from(lengths.get(p)));
+    }
+    operations
+}

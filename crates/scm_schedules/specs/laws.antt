@@ -1,0 +1,2 @@
+pub mod LeadingLaws
+pub mod RefutingLaws

@@ -1,0 +1,272 @@
+//! What lies under the lock of a shared book.
+ghost use Rattle.std.specs.Prelude.{◌≡◌, ◌≢◌, ◌+◌, ◌<◌, ◌≤◌, [], true, false, IfErr, IfOk, None, Some, MatchOption, MatchResult, vec_len};
+ghost use Rattle.std.specs.Option.{option_map};
+ghost use Rattle.scm_sequences.specs.declared.refusal.Refusal.TheVariants.{BadLine, JournalFull, NoMemory as WithoutMemory, TooManySessions};
+ghost use Rattle.scm_sequences.specs.declared.limits.TheConstants.{MOST_SESSIONS};
+ghost use Rattle.scm_results.specs.declared.limits.TheConstants.{MOST_TALLIES};
+ghost use Rattle.scm_results.specs.Tallies.{nothing, nothing_counted};
+ghost use Rattle.scm_book.specs.Calls.{call_data, reply_data, refused};
+ghost use Rattle.scm_book.specs.Journal.{makes_entry, IsUnchanged};
+ghost use Rattle.scm_book.specs.Loans.{IsLending, IsLendingForWork, IsTakingBack};
+ghost use Rattle.scm_book.specs.Workers.{IsTaking, IsDelivery};
+ghost use Rattle.scm_shared.specs.Locking.{with_one_entered, KeepsCounts, IsLockedCall, IsSearchedCall};
+ghost use Rattle.scm_shared.specs.Passes.{newcomer, Extended, SeenFull};
+ghost use Rattle.scm_shared.specs.Seats.{IsKeeper};
+
+use crate::length_word::LengthWord;
+use crate::word::View;
+use crate::{BookNaming, Made, Pass};
+use atomic_table::Seat;
+use scm_book::{Book, Call, Entry, Loan, Reply};
+use scm_expand::{Outcome, Task};
+use scm_results::{Results, Tally, Token, Totals};
+use scm_sequences::{MOST_ENTRIES, MOST_SESSIONS, NoMemory, Refusal};
+use std::alloc::Global;
+use std::marker::{Model, PhantomData};
+use std::sync::ledger;
+use std::sync::ledger::{Blank, Share};
+
+/// A question that the book lent, with its set. It can't be let go: only the lock's value of this book takes it apart, to take it back.
+pub(crate) struct BookLoan<B: BookNaming> {
+    question: Loan,
+    of: PhantomData<B>,
+}
+
+impl<B: BookNaming> BookLoan<B> {
+    fn new(question: Loan) -> BookLoan<B>
+        ensures { result.question ≡ question }
+    {
+        BookLoan {
+            question,
+            of: PhantomData,
+        }
+    }
+
+    pub(crate) fn question(&mut self) -> &mut Loan {
+        &mut self.question
+    }
+}
+
+/// The book, with its seat, which knows the journal; how many passes entered; and the totals of tasks and outcomes, which are
+/// those of the book.
+#[derive(Drop)]
+pub(crate) struct Locked<B: BookNaming> {
+    pub(crate) book: Book,
+    pub(crate) entered: u16,
+    pub(crate) seat: Seat<Entry, View>,
+    pub(crate) totals: Totals<B>,
+    pub(crate) made: ledger::Book<Made<B>>,
+    pub(crate) rest: Share<Made<B>>,
+}
+
+impl<B: BookNaming> Model for Locked<B> {
+    ghost use Rattle.std.specs.Prelude.{◌≡◌, ◌≢◌, ◌+◌, ◌≤◌, length};
+    ghost use Rattle.scm_sequences.specs.declared.limits.TheConstants.{MOST_SESSIONS};
+    ghost use Rattle.scm_shared.specs.Locking.{LockedState};
+    ghost use Rattle.scm_shared.specs.Seats.{IsKeeper};
+
+    ghost Value = { LockedState };
+
+    ghost view = { λ d. record { book = d.book; entered = d.entered; totals = d.totals } };
+
+    ghost invariant = { λ d.
+        (d.seat.table_id ≡ B.table)
+        × IsKeeper d.seat.me d.book.journal d.entered
+        × (d.entered ≤ MOST_SESSIONS)
+        × (d.made.total ≡ length d.book.journal)
+        × (d.rest.parts + d.entered ≡ MOST_SESSIONS + 1)
+        × (d.rest.amount ≡ 0)
+        × (B.seats ≡ MOST_SESSIONS + 1)
+        × (d.totals.results ≡ d.book.results) };
+}
+
+impl<B: BookNaming> Locked<B> {
+    /// An empty book, into which nobody entered.
+    pub(crate) fn new(
+        alloc: Global,
+        totals: Token,
+        made: Blank,
+        seat: Seat<Entry, View>,
+    ) -> Locked<B>
+        requires seat { (seat.table_id ≡ B.table) × IsKeeper seat.me [] 0 }
+        requires made { (made.name ≡ B.made) × (made.parts ≡ B.seats) × (made.parts ≡ MOST_SESSIONS + 1) }
+        requires taken { totals.taken.name ≡ B.taken }
+        requires delivered { totals.delivered.name ≡ B.delivered }
+        requires parts { totals.taken.parts ≡ B.parts }
+        ensures entered { result.entered ≡ 0 }
+        ensures totals { result.totals ≡ nothing }
+        ensures journal { result.book.journal ≡ [] }
+    {
+        let (made, rest) = made.open::<Made<B>>();
+        Locked {
+            book: Book::new(alloc),
+            entered: 0,
+            seat,
+            totals: Totals::new(totals),
+            made,
+            rest,
+        }
+    }
+
+    /// A new pass.
+    pub(crate) fn enter(
+        &mut self,
+        length_word: &LengthWord<B>,
+        alloc: Global,
+    ) -> Result<Pass<B>, Refusal>
+        ensures entered { MatchResult result (λ p. (p ≡ newcomer self.old.entered) × (self.old.entered < MOST_SESSIONS)) (λ r. (r ≡ TooManySessions) × (self.old.entered ≡ MOST_SESSIONS)) }
+        ensures locked { MatchResult result (λ _. self.new ≡ with_one_entered self.old) (λ _. self.new ≡ self.old) }
+    {
+        if usize::from(self.entered) >= MOST_SESSIONS {
+            return Err(Refusal::TooManySessions);
+        }
+        let number = self.entered;
+        let badge = length_word.admit(&mut self.seat);
+        self.entered += 1;
+        Ok(Pass {
+            number,
+            kept: Vec::new(alloc),
+            front: 0,
+            badge,
+            share: self.rest.split_off(1, 0),
+            of: PhantomData,
+        })
+    }
+
+    /// Makes a call of the pass's session. Where there is no room to keep it, the book isn't called.
+    pub(crate) fn call(
+        &mut self,
+        length_word: &LengthWord<B>,
+        pass: &mut Pass<B>,
+        call: Call,
+    ) -> Reply
+        ensures made { makes_entry (reply_data result) ≡ true → Extended pass.old (call_data call) (reply_data result) pass.new }
+        ensures full { reply_data result ≡ refused JournalFull → SeenFull pass.old pass.new }
+        ensures refused { reply_data result ≡ refused WithoutMemory → pass.new ≡ pass.old }
+        ensures good { reply_data result ≢ refused BadLine }
+        ensures sessions { reply_data result ≢ refused TooManySessions }
+        ensures book { IsLockedCall self.old.book pass.old.number (call_data call) (reply_data result) self.new.book }
+        ensures counts { KeepsCounts self.old self.new }
+        ensures unchanged { makes_entry (reply_data result) ≡ false → IsUnchanged self.old.book self.new.book }
+    {
+        if pass.kept.reserve(1).is_err() {
+            return Reply::Refused(Refusal::NoMemory);
+        }
+        let (reply, kept) = self.book.call_kept(pass.number, call);
+        match kept {
+            Some(kept) => {
+                let entries = self.book.entries();
+                let count = entries.len();
+                let entry = &entries[count - 1];
+                length_word.commit(&mut self.seat, &mut pass.badge, entry, count as u64);
+                self.made.add(&mut pass.share, 1);
+                pass.front = count as u64;
+                pass.kept.push_reserved(kept);
+            }
+            None => {
+                if matches!(reply, Reply::Refused(Refusal::JournalFull)) {
+                    length_word.catch_up(&mut self.seat, &mut pass.badge);
+                    pass.front = MOST_ENTRIES as u64;
+                }
+            }
+        }
+        reply
+    }
+
+    /// Makes the call, unless it asks a question that is to be searched without the lock first: that is lent, with the call.
+    pub(crate) fn call_or_lend(
+        &mut self,
+        length_word: &LengthWord<B>,
+        pass: &mut Pass<B>,
+        call: Call,
+    ) -> Result<Reply, (Call, BookLoan<B>)>
+        ensures made { IfOk result (λ reply. makes_entry (reply_data reply) ≡ true → Extended pass.old (call_data call) (reply_data reply) pass.new) }
+        ensures full { IfOk result (λ reply. reply_data reply ≡ refused JournalFull → SeenFull pass.old pass.new) }
+        ensures refused { IfOk result (λ reply. reply_data reply ≡ refused WithoutMemory → pass.new ≡ pass.old) }
+        ensures good { IfOk result (λ reply. reply_data reply ≢ refused BadLine) }
+        ensures sessions { IfOk result (λ reply. reply_data reply ≢ refused TooManySessions) }
+        ensures called { IfOk result (λ reply. IsLockedCall self.old.book pass.old.number (call_data call) (reply_data reply) self.new.book) }
+        ensures lent { IfErr result (λ lent. (call_data lent.0 ≡ call_data call) × IsLending self.old.book (call_data call) (Some lent.1.question) self.new.book) }
+        ensures pass { IfErr result (λ _. pass.new ≡ pass.old) }
+        ensures counts { KeepsCounts self.old self.new }
+    {
+        match self.book.lend(&call) {
+            Some(question) => Err((call, BookLoan::new(question))),
+            None => Ok(self.call(length_word, pass, call)),
+        }
+    }
+
+    /// Takes a question back that was lent, and makes its call.
+    pub(crate) fn call_searched(
+        &mut self,
+        length_word: &LengthWord<B>,
+        pass: &mut Pass<B>,
+        call: Call,
+        loan: BookLoan<B>,
+    ) -> Reply
+        ensures made { makes_entry (reply_data result) ≡ true → Extended pass.old (call_data call) (reply_data result) pass.new }
+        ensures full { reply_data result ≡ refused JournalFull → SeenFull pass.old pass.new }
+        ensures refused { reply_data result ≡ refused WithoutMemory → pass.new ≡ pass.old }
+        ensures good { reply_data result ≢ refused BadLine }
+        ensures sessions { reply_data result ≢ refused TooManySessions }
+        ensures book { IsSearchedCall self.old.book loan.question pass.old.number (call_data call) (reply_data result) self.new.book }
+        ensures counts { KeepsCounts self.old self.new }
+    {
+        self.take_back(loan);
+        self.call(length_word, pass, call)
+    }
+
+    /// The set of a trace, lent for work.
+    pub(crate) fn lend_work(&mut self) -> Option<BookLoan<B>>
+        ensures book { IsLendingForWork self.old.book (option_map (λ loan. loan.question) result) self.new.book }
+        ensures counts { KeepsCounts self.old self.new }
+    {
+        let question = self.book.lend_work()?;
+        Some(BookLoan::new(question))
+    }
+
+    /// Takes back what was lent.
+    pub(crate) fn take_back(&mut self, loan: BookLoan<B>)
+        ensures book { IsTakingBack self.old.book loan.question self.new.book }
+        ensures counts { KeepsCounts self.old self.new }
+    {
+        let BookLoan { question, of: _ } = loan;
+        self.book.take_back(question);
+    }
+
+    /// Takes at most `n` tasks, and counts them.
+    pub(crate) fn take(&mut self, n: usize, tally: &mut Tally<B>) -> Result<Vec<Task>, NoMemory>
+        ensures book { MatchResult result (λ tasks. IsTaking self.old.book n (Some tasks.items) self.new.book) (λ _. IsTaking self.old.book n None self.new.book) }
+        ensures most { IfOk result (λ tasks. vec_len tasks ≤ n) }
+        ensures taken { IfOk result (λ tasks. tally.new.taken ≤ tally.old.taken + vec_len tasks) }
+        ensures delivered { tally.new.delivered ≡ tally.old.delivered }
+        ensures refused { IfErr result (λ _. tally.new ≡ tally.old) }
+        ensures counts { (self.new.entered ≡ self.old.entered) × (self.new.totals.given ≡ self.old.totals.given) }
+    {
+        let tasks = self.book.take(n)?;
+        self.totals.take(tasks.len(), tally);
+        Ok(tasks)
+    }
+
+    /// Delivers outcomes, and counts what became of them, which it gives.
+    pub(crate) fn deliver(&mut self, outcomes: Vec<Outcome>, tally: &mut Tally<B>) -> Results
+        ensures book { IsDelivery self.old.book outcomes.items result self.new.book }
+        ensures taken { tally.new.taken ≡ tally.old.taken }
+        ensures delivered { tally.new.delivered ≤ tally.old.delivered + vec_len outcomes }
+        ensures counts { (self.new.entered ≡ self.old.entered) × (self.new.totals.given ≡ self.old.totals.given) }
+    {
+        let _counted = self.totals.results();
+        let delivered = self.book.deliver(outcomes);
+        self.totals.add(&delivered, tally);
+        delivered
+    }
+
+    /// A new tally.
+    pub(crate) fn tally(&mut self) -> Option<Tally<B>>
+        ensures tally { MatchOption result (self.old.totals.given ≡ MOST_TALLIES) (λ tally. (tally ≡ nothing_counted) × (self.old.totals.given < MOST_TALLIES)) }
+        ensures given { MatchOption result (self.new.totals.given ≡ self.old.totals.given) (λ _. self.new.totals.given ≡ self.old.totals.given + 1) }
+        ensures others { (self.new.book ≡ self.old.book) × (self.new.entered ≡ self.old.entered) }
+    {
+        self.totals.tally()
+    }
+}

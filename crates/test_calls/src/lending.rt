@@ -1,0 +1,235 @@
+//! Questions that are lent by a book, and what is taken back after whatever happened meanwhile.
+
+use crate::deliveries::add_call;
+use crate::words::{ANNA, call_of, name, play, played, says};
+use scm_book::{Book, Event, Loan, Reply, run_events};
+use scm_frontier::Steps;
+use std::alloc::Global;
+use std::process::Abort;
+
+/// So many stores each of three writers makes, in a cell of its own.
+const STORES: u64 = 9;
+
+/// What a question about them finds: each number of stores of each writer.
+pub(crate) const SITUATIONS: usize = 1_000;
+
+/// Each of three processes stores in its own cell, and the fourth loads from the first one what nobody stored.
+pub(crate) const OPEN: &str = "open t 4 5000 x y z; claim t 0; claim t 1; claim t 2; claim t 3";
+
+pub(crate) const FORBIDDEN: &str = "do t 3 lw x 10";
+
+const STORE: [&str; 3] = ["do t 0 sw x", "do t 1 sw y", "do t 2 sw z"];
+
+pub(crate) fn report_stores(rt: &impl Abort, alloc: Global, book: &mut Book, from: u64) {
+    for value in from..=STORES {
+        for store in STORE {
+            let line = format!(in alloc; "{store} {value}").expect(rt, "memory");
+            play(rt, alloc, book, &line);
+        }
+    }
+}
+
+/// A book with such a trace.
+pub(crate) fn forbidden(rt: &impl Abort, alloc: Global) -> Book {
+    forbidden_in(rt, alloc, OPEN)
+}
+
+fn forbidden_in(rt: &impl Abort, alloc: Global, open: &str) -> Book {
+    let mut book = played(rt, alloc, open);
+    report_stores(rt, alloc, &mut book, 1);
+    play(rt, alloc, &mut book, FORBIDDEN);
+    book
+}
+
+fn searched(rt: &impl Abort, alloc: Global, book: &mut Book) -> Loan {
+    let lent = book.lend(&call_of(rt, alloc, "ask t"));
+    let mut loan = lent.expect(rt, "a question");
+    loan.search();
+    loan
+}
+
+/// The set of t holds so many situations.
+pub(crate) fn assert_held(rt: &impl Abort, book: &Book, count: usize) {
+    let held = book.held(&name(rt, b"t"));
+    assert!(rt; held == Some(count));
+}
+
+/// By how many steps t gets this answer under the book.
+pub(crate) fn steps_to_ask(rt: &impl Abort, book: &mut Book, wanted: &str) -> u64 {
+    let t = name(rt, b"t");
+    let mut steps = Steps::new();
+    assert!(rt; book.has_room(&t, &steps));
+    let reply = book.ask(ANNA, t, None, &mut steps);
+    assert!(rt; says(&reply, wanted));
+    steps.made()
+}
+
+/// The question is inconsistent, and takes no step.
+pub(crate) fn assert_spared(rt: &impl Abort, book: &mut Book) {
+    assert!(rt; steps_to_ask(rt, book, "inconsistent") == 0);
+}
+
+/// It is inconsistent, and takes steps.
+fn assert_searched(rt: &impl Abort, book: &mut Book) {
+    assert!(rt; steps_to_ask(rt, book, "inconsistent") > 0);
+}
+
+#[test]
+fn what_was_found_spares_the_question(rt: HostRuntime) {
+    let mut book = forbidden(&rt, rt.alloc());
+    let loan = searched(&rt, rt.alloc(), &mut book);
+    assert_held(&rt, &book, 1);
+    book.take_back(loan);
+    assert_held(&rt, &book, SITUATIONS);
+    assert_spared(&rt, &mut book);
+}
+
+#[test]
+fn a_lost_question_is_asked_anew(rt: HostRuntime) {
+    let mut book = forbidden(&rt, rt.alloc());
+    let _ = searched(&rt, rt.alloc(), &mut book);
+    assert_searched(&rt, &mut book);
+    assert_held(&rt, &book, SITUATIONS);
+}
+
+/// What happens to a trace while a question about it is away: how it was opened, the calls meanwhile, from which store on it
+/// has stores then, how many situations are held once the question was taken back, and the answer to the next one.
+///
+/// - A report cuts nothing.
+/// - A return leaves what is in common: what was reported since the mark is reported anew, the last store of x otherwise.
+/// - Another trace of the name takes what is in common, but for other first contents or a smaller budget.
+const MEANWHILE: [(&str, &str, u64, usize, &str); 5] = [
+    (OPEN, "do t 0 sw x 77", 10, SITUATIONS, "inconsistent"),
+    (MARKED, "back t 0", STORES, 1, "consistent"),
+    (OPEN, REOPENED, 1, SITUATIONS, "consistent"),
+    (OPEN, WITH_FIVE, 1, 1, "consistent"),
+    (OPEN, WITH_LESS, 1, 1, "consistent"),
+];
+
+const MARKED: &str =
+    "open t 4 5000 x y z; claim t 0; claim t 1; claim t 2; claim t 3; mark t => ok 0";
+
+const REOPENED: &str = "close t; open t 4 5000 x y z; claim t 0; claim t 1; claim t 2; claim t 3";
+
+const WITH_FIVE: &str =
+    "close t; open t 4 5000 x=5 y z; claim t 0; claim t 1; claim t 2; claim t 3";
+
+const WITH_LESS: &str = "close t; open t 4 999 x y z; claim t 0; claim t 1; claim t 2; claim t 3";
+
+#[test]
+fn what_happens_meanwhile_is_told_apart(rt: HostRuntime) {
+    for (open, calls, from, held, answer) in MEANWHILE {
+        let mut book = forbidden_in(&rt, rt.alloc(), open);
+        let loan = searched(&rt, rt.alloc(), &mut book);
+        play(&rt, rt.alloc(), &mut book, calls);
+        report_stores(&rt, rt.alloc(), &mut book, from);
+        book.take_back(loan);
+        assert_held(&rt, &book, held);
+        let _steps = steps_to_ask(&rt, &mut book, answer);
+    }
+}
+
+#[test]
+fn a_closed_trace_takes_nothing_back(rt: HostRuntime) {
+    let mut book = forbidden(&rt, rt.alloc());
+    let loan = searched(&rt, rt.alloc(), &mut book);
+    play(&rt, rt.alloc(), &mut book, "close t");
+    book.take_back(loan);
+    assert!(rt; book.held(&name(&rt, b"t")).is_none());
+}
+
+/// The budget is spent, and raised while the question is away: the next one goes on from there.
+#[test]
+fn a_raised_budget_goes_on(rt: HostRuntime) {
+    let mut book = forbidden_in(
+        &rt,
+        rt.alloc(),
+        "open t 4 500 x y z; claim t 0; claim t 1; claim t 2; claim t 3",
+    );
+    let loan = searched(&rt, rt.alloc(), &mut book);
+    play(&rt, rt.alloc(), &mut book, "raise t 5000");
+    book.take_back(loan);
+    assert_held(&rt, &book, 500);
+    let spared = steps_to_ask(&rt, &mut book, "inconsistent");
+    let steps = steps_to_ask(&rt, &mut forbidden(&rt, rt.alloc()), "inconsistent");
+    assert!(rt; 0 < spared && spared < steps);
+}
+
+fn assert_not_lent(rt: &impl Abort, alloc: Global, book: &mut Book, line: &str) {
+    let lent = book.lend(&call_of(rt, alloc, line));
+    assert!(rt; lent.is_none());
+}
+
+#[test]
+fn nothing_is_lent_where_the_answer_is_there(rt: HostRuntime) {
+    let mut book = forbidden(&rt, rt.alloc());
+    assert_searched(&rt, &mut book);
+    for line in ["ask t", "list"] {
+        assert_not_lent(&rt, rt.alloc(), &mut book, line);
+    }
+    assert_held(&rt, &book, SITUATIONS);
+}
+
+fn add_event(rt: &impl Abort, events: &mut Vec<Event>, event: Event) {
+    events.push(event).expect(rt, "memory");
+}
+
+/// The book after these events, of which the calls got these replies.
+fn after_events(
+    rt: &impl Abort,
+    alloc: Global,
+    book: Book,
+    events: Vec<Event>,
+    wanted: &[&str],
+) -> Book {
+    let Ok((book, replies)) = run_events(alloc, book, events) else {
+        panic!(rt; "no memory");
+    };
+    assert_said(rt, &replies, wanted);
+    book
+}
+
+fn assert_said(rt: &impl Abort, replies: &[Reply], wanted: &[&str]) {
+    let mut said = replies.iter().zip(wanted);
+    assert!(rt; replies.len() == wanted.len() && said.all(|(reply, wanted)| says(reply, wanted)));
+}
+
+/// What was found comes back after a loan for work, and spares the question its steps.
+#[test]
+fn a_set_comes_back_among_events(rt: HostRuntime) {
+    let mut book = forbidden(&rt, rt.alloc());
+    let loan = searched(&rt, rt.alloc(), &mut book);
+    let mut events = Vec::new(rt.alloc());
+    add_event(&rt, &mut events, Event::LendWork);
+    add_event(&rt, &mut events, Event::TakeBack(loan));
+    add_call(&rt, rt.alloc(), &mut events, "ask t");
+    let book = after_events(&rt, rt.alloc(), book, events, &["inconsistent"]);
+    assert_held(&rt, &book, SITUATIONS);
+    assert!(rt; book.steps() == 0);
+}
+
+/// What is lent among events is lost: the start alone stays.
+#[test]
+fn a_set_is_lost_among_events(rt: HostRuntime) {
+    let mut book = forbidden(&rt, rt.alloc());
+    let loan = searched(&rt, rt.alloc(), &mut book);
+    let ask = call_of(&rt, rt.alloc(), "ask t");
+    let mut events = Vec::new(rt.alloc());
+    add_event(&rt, &mut events, Event::TakeBack(loan));
+    add_call(&rt, rt.alloc(), &mut events, "do t 0 sw x 77");
+    add_event(&rt, &mut events, Event::Lend(ask));
+    let book = after_events(&rt, rt.alloc(), book, events, &["ok"]);
+    assert_held(&rt, &book, 1);
+}
+
+/// What comes back to another book, which has no such trace any more, changes nothing.
+#[test]
+fn another_book_takes_nothing(rt: HostRuntime) {
+    let loan = searched(&rt, rt.alloc(), &mut forbidden(&rt, rt.alloc()));
+    let mut events = Vec::new(rt.alloc());
+    add_call(&rt, rt.alloc(), &mut events, "close t");
+    add_event(&rt, &mut events, Event::TakeBack(loan));
+    let book = played(&rt, rt.alloc(), OPEN);
+    let book = after_events(&rt, rt.alloc(), book, events, &["ok"]);
+    assert!(rt; book.held(&name(&rt, b"t")).is_none() && book.entries().len() == 6);
+}

@@ -1,0 +1,7 @@
+use Rattle.test_scripts.proofs.shared_searchers.calls_while_a_set_is_lent.Given as goal
+
+abbrev pub ghosts-hold-B-BookNaming : goal.ghosts-hold-B-BookNaming
+ghosts-hold-B-BookNaming g a = record { table = a.token.table.shared.table_id; made = a.token.made.name; seats = a.token.made.parts }
+
+abbrev pub ghosts-hold-B-Naming : goal.ghosts-hold-B-Naming
+ghosts-hold-B-Naming g a = record { taken = a.token.totals.taken.name; delivered = a.token.totals.delivered.name; parts = a.token.totals.taken.parts }
