@@ -54,7 +54,7 @@ KINDS = {
     "4 x 500, 4 values, asked 20 times more": lambda: asked_again(few_values(4, 500, 8, 4), 4, 20),
     "4 x 2000, 200 values, budget 1000, the same": lambda: asked_again(few_values(4, 2_000, 8, 200, 1_000), 4, 20),
     "4 x 50000, 200 values, budget 100": lambda: few_values(4, 50_000, 8, 200, 100),
-    "32 x 100, one cell, 5 values": lambda: few_values(32, 100, 1, 5, amos=0.1),
+    "32 x 100, one cell, 5 values": lambda: few_values(32, 100, 1, 5),
     "2 x 50000, one cell, 6 values": lambda: few_values(2, 50_000, 1, 6),
     "8 x 300, 2 cells, 6 values, 9 of 10 swap": lambda: few_values(8, 300, 2, 6, amos=0.9),
     "16 x 200, 64 cells, 2 values": lambda: few_values(16, 200, 64, 2),
