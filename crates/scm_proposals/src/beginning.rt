@@ -43,6 +43,11 @@ impl Beginning {
         make(&mut self.counts, &mut self.contents, p, op)
     }
 
+    /// How many places stay where so many are dropped from the end.
+    pub(crate) fn len_without(&self, tail: usize) -> usize {
+        self.len.saturating_sub(tail)
+    }
+
     /// How many operations within the lengths are left.
     pub(crate) fn left(&self, lengths: &Lengths) -> usize {
         let mut left: usize = 0;

@@ -73,7 +73,7 @@ pub fn propose(
     let longest = proposer.beginning(earlier.len())?;
     let mut tail = 0;
     for _ in 0..usize::BITS {
-        let kept = longest.len.saturating_sub(tail);
+        let kept = longest.len_without(tail);
         if kept == 0 {
             return proposer.complete_from_nothing();
         }
