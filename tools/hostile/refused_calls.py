@@ -26,6 +26,7 @@ ON_ROWS = {
     ],
     "refused_rows::by_passes": ["message-passing-out-of-order", "a-return-changes-what-can-be-read", "claims-and-releases"],
 }
+TAKE_NONE = ("refused::cut",)  # tests of a call that takes no memory: each refusal shows elsewhere
 NO_CALL, PREPARING = "no call", "a test's own preparing"
 WANTS_MEMORY = re.compile(rb"memory|NoMemory|AllocError|AllocFailed")
 
@@ -65,6 +66,8 @@ class Calls:
             self.wrong.append(f"{self.name} fails where nothing is refused")
         refused = self.numbers()
         self.shown.update(pool.map(self.refuse, refused))
+        if self.test in TAKE_NONE and self.shown[NO_CALL] >= IN_VAIN:
+            self.wrong.append(f"{self.name}: a call that takes no memory asked for some")
         return len(refused)
 
 
