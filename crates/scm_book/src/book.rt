@@ -109,7 +109,8 @@ impl Book {
 
     /// Takes at most `n` tasks for workers, all of one trace: at least one where `n` isn't 0 and some trace has a next
     /// operation that is still to be looked at and room in its budget. A trace with such operations that weren't handed out
-    /// comes first, among these one with few situations. Neither machine nor journal changes. Where memory is refused nothing is handed out.
+    /// comes first, among these one with few situations. Neither machine nor journal changes. Where memory is refused nothing is
+    /// handed out.
     pub fn take(&mut self, n: usize) -> Result<Vec<Task>, NoMemory>
         ensures taken { MatchResult result (λ tasks. IsTaking self.old n (Some tasks.items) self.new) (λ _. IsTaking self.old n None self.new) }
         ensures legal { IsLegalBook self.new }
@@ -158,9 +159,9 @@ impl Book {
     }
 
     /// The set of a trace with many situations, to be searched with no book at hand for what questions will want, as the question
-    /// whether the trace is consistent; the start alone stays in its place. `None`, with everything as it was, where no trace wants it, where the
-    /// first one that might turns out to have a schedule or a settled set, or memory is refused: `may_want_work` tells whether to
-    /// try again. Neither machine nor journal changes.
+    /// whether the trace is consistent; the start alone stays in its place. `None`, with everything as it was, where no trace
+    /// wants it, where the first one that might turns out to have a schedule or a settled set, or memory is refused:
+    /// `may_want_work` tells whether to try again. Neither machine nor journal changes.
     pub fn lend_work(&mut self) -> Option<Loan>
         ensures lends { IsLendingForWork self.old result self.new }
         ensures legal { IsLegalBook self.new }

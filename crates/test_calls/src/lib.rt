@@ -10,6 +10,8 @@ mod deliveries;
 #[cfg(test)]
 mod expand;
 #[cfg(test)]
+mod held;
+#[cfg(test)]
 mod idle;
 #[cfg(test)]
 mod lending;

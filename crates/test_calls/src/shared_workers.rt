@@ -41,7 +41,7 @@ fn play<B: BookNaming, R: Wait + Abort>(
 }
 
 /// The question whether t is consistent is answered so.
-fn assert_answer(rt: &impl Abort, alloc: Global, book: &mut Book, wanted: &str) {
+pub(crate) fn assert_answer(rt: &impl Abort, alloc: Global, book: &mut Book, wanted: &str) {
     assert!(rt; says(&book.call(0, call_of(rt, alloc, "ask t")), wanted));
 }
 
@@ -59,7 +59,7 @@ fn drop_tasks<B: BookNaming, R: Wait>(rt: &R, shared: &SharedBook<B>) -> Option<
 }
 
 /// A pass, after the calls that open t and report store buffering.
-fn buffered<B: BookNaming, R: Wait + Abort>(
+pub(crate) fn buffered<B: BookNaming, R: Wait + Abort>(
     rt: &R,
     alloc: Global,
     shared: &SharedBook<B>,
@@ -71,7 +71,7 @@ fn buffered<B: BookNaming, R: Wait + Abort>(
 }
 
 /// The book of an audit that accounts for all, with so many tallies.
-fn accounted(rt: &impl Abort, audit: Audit, tallies: u32) -> Book {
+pub(crate) fn accounted(rt: &impl Abort, audit: Audit, tallies: u32) -> Book {
     assert!(rt; audit.agreed && audit.totals_agreed && audit.tallies == tallies);
     audit.book
 }

@@ -40,7 +40,7 @@ impl Limits {
 }
 
 /// Whether the audit agrees, with a tally of each worker and of the collector.
-fn is_agreed(audit: &Audit, workers: usize) -> bool {
+pub(crate) fn is_agreed(audit: &Audit, workers: usize) -> bool {
     audit.agreed && audit.totals_agreed && audit.tallies as usize == workers.saturating_add(1)
 }
 

@@ -7,6 +7,8 @@ mod beside;
 #[cfg(test)]
 mod each;
 #[cfg(test)]
+mod ending;
+#[cfg(test)]
 mod fakes;
 #[cfg(test)]
 mod journals;
@@ -30,3 +32,5 @@ mod storm;
 mod storm_lines;
 #[cfg(test)]
 mod tasks;
+#[cfg(test)]
+mod waiting;

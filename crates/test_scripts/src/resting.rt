@@ -1,6 +1,7 @@
 //! That workers search a shared book's large sets while its callers rest, and that nobody waits for one who is held.
 ghost use Rattle.std.specs.Prelude.{◌≡◌};
 
+use crate::waiting::is_set;
 use scm_book::{Book, Reply};
 use scm_cells::Name;
 use scm_expand::{FreeGate, Gate, TaskSource, run_workers};
@@ -19,9 +20,6 @@ use std::thread::Threads;
 use std::time::Duration;
 
 const WORKERS: usize = 2;
-
-/// So often a thread yields to others at most.
-const MOST_TURNS: u64 = 100_000_000;
 
 /// For so many milliseconds workers have time.
 const MOST_MILLIS: u64 = 60_000;
@@ -115,17 +113,6 @@ impl Gate for Barrier {
         let _ = is_set(&self.open);
         self.left.store(true, Ordering::SeqCst);
     }
-}
-
-/// Whether it is set in the end.
-fn is_set(flag: &AtomicBool) -> bool {
-    for _ in 0..MOST_TURNS {
-        if flag.load(Ordering::SeqCst) {
-            return true;
-        }
-        thread::yield_now();
-    }
-    false
 }
 
 /// Reports to t, and asks about u and t, while a worker is held who comes to search the set of t.

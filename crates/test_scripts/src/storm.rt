@@ -4,24 +4,35 @@ ghost use Rattle.std.specs.Prelude.{◌≡◌};
 use crate::each;
 use crate::replays::replays;
 use crate::storm_lines::{CALLERS, Caller, TURNS};
+use crate::waiting::rises_to;
 use scm_book::Reply;
 use scm_expand::{Gate, run_workers};
 use scm_sessions::read_line;
 use scm_shared::{Audit, BookNaming, BookToken, Pass, SharedBook, same_reply};
-use std::alloc::Global;
+use std::alloc::{AllocError, Global};
 use std::marker::Brand;
 use std::process::Abort;
 use std::sync::Wait;
 use std::sync::atomic::{AtomicU64, Ordering};
 use std::test::Fail;
-use std::thread;
 use std::thread::Threads;
-use std::time::Duration;
+use std::time::{Clock, Duration, Instant};
+use std::{io, thread};
 
 const WORKERS: usize = 4;
 
-/// How often a caller looks whether the others pause too.
-const MOST_TURNS: u64 = 100_000_000;
+/// So many storms come in a row.
+const STORMS: u64 = 10;
+
+/// None begins after so many seconds, of which one takes a tenth, but a build without proofs is slow.
+const MOST_SECONDS: u64 = 15;
+
+/// What the first session asks before a storm. It leaves few situations, so the crew takes tasks.
+const CALM: &str = "p0 open u 2 100 x:w=0\n\
+    p0 claim u 0\n\
+    p0 claim u 1\n\
+    p0 do u 0 sw x 1\n\
+    p0 do u 1 sw x 2\n";
 
 /// How often a held expansion looks whether it may go on.
 const MOST_LOOKS: u64 = 1_000;
@@ -53,12 +64,7 @@ impl Gusts {
     fn pause<R: Wait>(&self, rt: &R, number: u64) {
         self.paused.fetch_add(1, Ordering::SeqCst);
         let all = number.saturating_mul(u64::from(CALLERS));
-        for _ in 0..MOST_TURNS {
-            if self.paused.load(Ordering::SeqCst) >= all {
-                break;
-            }
-            thread::yield_now();
-        }
+        let _ = rises_to(&self.paused, all);
         AtomicU64::new(0).park_timeout(rt, 0, Duration::from_millis(PAUSE_MILLIS));
     }
 }
@@ -86,6 +92,37 @@ fn is_kept<B: BookNaming>(pass: &Pass<B>, reply: &Reply) -> bool {
     }
 }
 
+/// Makes the calls of these lines.
+fn call_all<B: BookNaming, R: Wait + Abort>(
+    rt: &R,
+    alloc: Global,
+    shared: &SharedBook<B>,
+    gusts: &Gusts,
+    pass: &mut Pass<B>,
+    lines: &str,
+) {
+    for line in lines.lines() {
+        let (_, call) = read_line(alloc, line.as_bytes()).expect(rt, "a call");
+        let reply = shared.call(rt, pass, call);
+        gusts.answered.fetch_add(1, Ordering::SeqCst);
+        assert!(rt; is_kept(pass, &reply));
+    }
+}
+
+/// Makes the calls of the calm, and waits until a worker has come to expand a task: so the crew is awake when the storm begins.
+fn wake_crew<B: BookNaming, R: Wait + Abort>(
+    rt: &R,
+    alloc: Global,
+    shared: &SharedBook<B>,
+    gusts: &Gusts,
+    passes: &mut [Pass<B>],
+) {
+    if let Some(first) = passes.first_mut() {
+        call_all(rt, alloc, shared, gusts, first, CALM);
+    }
+    assert!(rt; rises_to(&gusts.expansions, 1));
+}
+
 /// Makes all turns of one caller, and gives its pass back.
 fn call_on<B: BookNaming, R: Wait + Abort>(
     rt: &R,
@@ -100,12 +137,7 @@ fn call_on<B: BookNaming, R: Wait + Abort>(
             gusts.pause(rt, turn / TURNS_TO_A_PAUSE);
         }
         let lines = caller.turn(alloc).expect(rt, "memory");
-        for line in lines.lines() {
-            let (_, call) = read_line(alloc, line.as_bytes()).expect(rt, "a call");
-            let reply = shared.call(rt, &mut pass, call);
-            gusts.answered.fetch_add(1, Ordering::SeqCst);
-            assert!(rt; is_kept(&pass, &reply));
-        }
+        call_all(rt, alloc, shared, gusts, &mut pass, lines.as_str());
     }
     pass
 }
@@ -123,6 +155,24 @@ fn passes<B: BookNaming, R: Wait>(
     Ok(passes)
 }
 
+/// Wakes the crew, makes the turns of all callers, each in a thread of its own, and tells the crew to end.
+fn call_and_stop<B: BookNaming + Send + Sync, R: Threads + Wait + Abort + Sync>(
+    rt: &R,
+    alloc: Global,
+    shared: &SharedBook<B>,
+    gusts: &Gusts,
+    mut passes: Vec<Pass<B>>,
+) -> Result<Vec<Pass<B>>, AllocError> {
+    wake_crew(rt, alloc, shared, gusts, passes.as_mut_slice());
+    let passes = thread::map_vec(
+        rt,
+        passes,
+        &|pass| { call_on(rt, alloc, shared, gusts, pass) },
+    );
+    shared.stop_workers();
+    passes
+}
+
 /// The audit after all callers and workers have ended, and how many calls were answered.
 fn storm<B: BookNaming + Send + Sync, R: Threads + Wait + Abort + Sync>(
     rt: &R,
@@ -138,15 +188,7 @@ fn storm<B: BookNaming + Send + Sync, R: Threads + Wait + Abort + Sync>(
     let passes = passes(rt, alloc, &shared)?;
     let (passes, tallies) = thread::join(
         rt,
-        || {
-            let passes = thread::map_vec(
-                rt,
-                passes,
-                &|pass| { call_on(rt, alloc, &shared, &gusts, pass) },
-            );
-            shared.stop_workers();
-            passes
-        },
+        || call_and_stop(rt, alloc, &shared, &gusts, passes),
         || run_workers::<B, SharedBook<B>, Gusts, R>(rt, alloc, &shared, &gusts, WORKERS),
     );
     Ok((shared.audit(passes?, tallies?), gusts.answered.into_inner()))
@@ -176,12 +218,31 @@ fn check_audit(rt: &impl Abort, alloc: Global, audit: &Audit, calls: usize) -> R
     Ok(())
 }
 
+/// The same of a storm of passes, in which workers delivered something.
+fn check_passes(rt: &impl Abort, alloc: Global, audit: &Audit, calls: usize) -> Result<(), Fail> {
+    assert!(rt; audit.book.results().delivered() > 0);
+    check_audit(rt, alloc, audit, calls)
+}
+
+/// Whether another storm may begin.
+fn has_time(rt: &impl Clock, began: &Instant) -> io::Result<bool> {
+    Ok(began.elapsed(rt)? < Duration::from_secs(MOST_SECONDS))
+}
+
 #[test]
 fn storm_passes(rt: HostRuntime) -> Result<(), Fail> {
     let alloc = rt.alloc();
-    let (audit, answered) = storm::<Brand, _>(&rt, alloc, BookToken::new(alloc)?)?;
-    assert!(rt; audit.book.results().delivered() > 0);
-    check_audit(&rt, alloc, &audit, answered as usize)
+    let began = Instant::now(&rt)?;
+    for _ in 0..STORMS {
+        let (audit, answered) = storm::<Brand, _>(&rt, alloc, BookToken::new(alloc)?)?;
+        let checked = check_passes(&rt, alloc, &audit, answered as usize);
+        drop(audit);
+        checked?;
+        if !has_time(&rt, &began)? {
+            break;
+        }
+    }
+    Ok(())
 }
 
 /// The lines of all callers, turn by turn.
@@ -213,12 +274,27 @@ fn in_order(written: &[u8]) -> Option<usize> {
     Some(replies.lines().count())
 }
 
+/// A storm by a script with a thread for each session.
+fn storm_in_groups<T: Threads + Wait + Abort + Sync>(
+    rt: &T,
+    alloc: Global,
+    script: &str,
+) -> Result<(), Fail> {
+    let (ended, written) = each::run_of(rt, alloc, script.as_bytes(), WORKERS)?;
+    let calls = script.lines().count();
+    assert!(rt; in_order(written.as_slice()) == Some(calls));
+    check_audit(rt, alloc, &ended?.audit, calls)
+}
+
 #[test]
 fn storm_each(rt: HostRuntime) -> Result<(), Fail> {
-    let alloc = rt.alloc();
-    let script = script(alloc)?;
-    let (ended, written) = each::run_of(&rt, alloc, script.as_bytes(), WORKERS)?;
-    let calls = script.as_str().lines().count();
-    assert!(rt; in_order(written.as_slice()) == Some(calls));
-    check_audit(&rt, alloc, &ended?.audit, calls)
+    let script = script(rt.alloc())?;
+    let began = Instant::now(&rt)?;
+    for _ in 0..STORMS {
+        storm_in_groups(&rt, rt.alloc(), script.as_str())?;
+        if !has_time(&rt, &began)? {
+            break;
+        }
+    }
+    Ok(())
 }
