@@ -1,13 +1,26 @@
 //! The writes of each process to each cell.
+use crate::grid::Grid;
 use crate::numbering::Numbering;
 use crate::values::Values;
 use std::alloc::Global;
 
-/// The places of the writes of each process to each cell, in order.
+/// The most numbers of a table of counts: of a trace that needs more, counts are searched for.
+const MOST_COUNTS: u32 = 1 << 22;
+
+/// The places of the writes of each process to each cell, in order; and how many of them stand before each place.
 #[derive(Drop)]
 pub struct Writes {
     cells: u32,
     lists: Vec<Vec<u32>>,
+    counts: Option<Counts>,
+}
+
+/// A row for each place of each process, and one for its end.
+#[derive(Drop)]
+struct Counts {
+    // For each process its first row, and how many operations it has.
+    parts: Vec<(u32, u32)>,
+    rows: Grid,
 }
 
 // How many of these numbers, which rise, are less than `bound`.
@@ -37,6 +50,7 @@ impl Writes {
         let mut writes = Writes {
             cells,
             lists: Vec::new(alloc),
+            counts: None,
         };
         for _ in 0..numbering.procs()?.checked_mul(cells)? {
             writes.lists.push(Vec::new(alloc)).ok()?;
@@ -45,6 +59,10 @@ impl Writes {
             if values.written(x).is_some() {
                 writes.add(numbering, x)?;
             }
+        }
+        let rows = numbering.len()?.checked_add(numbering.procs()?)?;
+        if rows.checked_mul(cells)? <= MOST_COUNTS {
+            writes.counts = Some(Counts::new(alloc, &writes, numbering, rows)?);
         }
         Some(writes)
     }
@@ -68,18 +86,59 @@ impl Writes {
 
     /// How many writes of a process to a cell stand before a place.
     pub fn count(&self, process: u32, cell: u32, place: u32) -> Option<u32> {
+        if let Some(counts) = &self.counts {
+            return counts.get(process, cell, place);
+        }
         u32::try_from(count_below(self.of(process, cell)?, place)).ok()
     }
 
     /// The last write of a process to a cell before a place.
     pub fn before(&self, process: u32, cell: u32, place: u32) -> Option<u32> {
-        let list = self.of(process, cell)?;
-        list.get(count_below(list, place).checked_sub(1)?).copied()
+        let count = self.count(process, cell, place)?;
+        self.of(process, cell)?
+            .get(count.checked_sub(1)? as usize)
+            .copied()
     }
 
     /// The first write of a process to a cell from a place on.
     pub fn from(&self, process: u32, cell: u32, place: u32) -> Option<u32> {
-        let list = self.of(process, cell)?;
-        list.get(count_below(list, place)).copied()
+        let count = self.count(process, cell, place)?;
+        self.of(process, cell)?.get(count as usize).copied()
+    }
+}
+
+impl Counts {
+    fn new(alloc: Global, writes: &Writes, numbering: &Numbering, rows: u32) -> Option<Counts> {
+        let mut counts = Counts {
+            parts: Vec::new(alloc),
+            rows: Grid::zeros(alloc, rows, writes.cells)?,
+        };
+        let mut first: u32 = 0;
+        for process in 0..numbering.procs()? {
+            let count = numbering.count(process)?;
+            counts.parts.push((first, count)).ok()?;
+            for cell in 0..writes.cells {
+                counts.fill(writes.of(process, cell)?, cell, first, count)?;
+            }
+            first = first.checked_add(count)?.checked_add(1)?;
+        }
+        Some(counts)
+    }
+
+    // Fills the column of a cell for a process of so many operations.
+    fn fill(&mut self, places: &[u32], cell: u32, first: u32, count: u32) -> Option<()> {
+        let mut number: u32 = 0;
+        for place in 0..=count {
+            self.rows.set(first.checked_add(place)?, cell, number)?;
+            if places.get(number as usize) == Some(&place) {
+                number = number.checked_add(1)?;
+            }
+        }
+        Some(())
+    }
+
+    fn get(&self, process: u32, cell: u32, place: u32) -> Option<u32> {
+        let (first, count) = *self.parts.get(process as usize)?;
+        self.rows.get(first.checked_add(place.min(count))?, cell)
     }
 }

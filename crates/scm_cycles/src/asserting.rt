@@ -38,6 +38,10 @@ impl Search {
     pub(crate) fn settle(&mut self, claim: Claim, id: u32) -> Option<()> {
         self.settled.settle(claim.to, id)?;
         self.choices.see(claim)?;
+        if let Some(candidates) = &mut self.candidates {
+            let steps = candidates.close(claim.to)?;
+            self.burn_for(steps)?;
+        }
         if self.waiting.is_noted() {
             self.touch(claim.to)?;
         }

@@ -1,4 +1,5 @@
 //! Clocks backward.
+use crate::candidates::Candidates;
 use crate::search::Search;
 use scm_clocks::{Clocks, Numbering};
 use std::alloc::Global;
@@ -38,25 +39,31 @@ pub(crate) fn lower(
 }
 
 impl Search {
-    /// From now on it is known what comes after each operation, and not only what comes before it; and changes can be taken
-    /// back.
+    /// From now on it is known what comes after each operation, and not only what comes before it, and what is left for each
+    /// read to see; and changes can be taken back.
     pub(crate) fn look_back(&mut self) -> Option<()> {
+        let mut afters = self.all_afters()?;
+        afters.record();
+        self.afters = Some(afters);
+        self.clocks.record();
+        self.find_candidates()
+    }
+
+    fn all_afters(&self) -> Option<Clocks> {
         let mut afters = afters_of(self.alloc, &self.numbering)?;
         for x in 0..self.ops {
             let spot = self.numbering.spot(x)?;
             for process in 0..self.procs {
-                lower(
-                    &mut afters,
-                    &self.numbering,
-                    spot,
-                    process,
-                    self.before(x, process)?,
-                )?;
+                let count = self.before(x, process)?;
+                lower(&mut afters, &self.numbering, spot, process, count)?;
             }
         }
-        afters.record();
-        self.afters = Some(afters);
-        self.clocks.record();
+        Some(afters)
+    }
+
+    fn find_candidates(&mut self) -> Option<()> {
+        let candidates = Candidates::new(self.alloc, &self.numbering, &self.values, &self.writers)?;
+        self.candidates = Some(candidates);
         Some(())
     }
 }

@@ -1,16 +1,55 @@
-//! The search for a contradiction by cases.
+//! The search by cases: for a contradiction, or for what reads see in some schedule.
 use crate::claims::Claim;
 use crate::conflict::Conflict;
 use crate::gathering::draft;
+use crate::goals::Goal;
 use crate::search::Search;
 use crate::steps::{Need, Why};
+use crate::touching::Side;
 use crate::waiting::Next;
+use scm_orders::Derivation;
 
 /// After how many contradictions the cases are chosen anew, at least.
 const UNIT: u64 = 30;
 
-/// The most that is looked at: a second or two.
-const MOST_FUEL: u64 = 1 << 25;
+/// How a search by cases ends.
+#[derive(Drop)]
+pub(crate) enum Ending {
+    /// With a contradiction that needs no case.
+    Contradiction(Conflict),
+    /// With nothing left to be tried.
+    Settled,
+}
+
+/// How often the cases were chosen anew, with the first time, and how many contradictions there were since.
+#[derive(Clone, Copy)]
+pub(crate) struct Restarts {
+    pub(crate) count: u64,
+    conflicts: u64,
+}
+
+impl Restarts {
+    pub(crate) const FIRST: Restarts = Restarts {
+        count: 1,
+        conflicts: 0,
+    };
+
+    // Whether the cases are to be chosen anew.
+    fn are_due(self) -> bool {
+        self.conflicts > UNIT.saturating_mul(luby(self.count))
+    }
+
+    fn next(self) -> Restarts {
+        Restarts {
+            count: self.count.saturating_add(1),
+            conflicts: 0,
+        }
+    }
+
+    fn add(&mut self) {
+        self.conflicts = self.conflicts.saturating_add(1);
+    }
+}
 
 // The numbers 1, 1, 2, 1, 1, 2, 4, 1, 1, 2, ..: at place `n`, from 1.
 fn luby(n: u64) -> u64 {
@@ -32,35 +71,36 @@ fn highest_power(n: u64) -> u64 {
 }
 
 impl Search {
-    /// Tries cases, after all is drawn without any, until a contradiction needs none.
-    pub(crate) fn argue(&mut self) -> Option<Conflict> {
-        self.fuel = self.fuel.min(MOST_FUEL);
-        self.look_back()?;
-        self.touch_all()?;
-        let mut restarts = 1u64;
-        let mut count = 0u64;
+    /// Tries cases until nothing is left to be tried, or a contradiction needs none.
+    pub(crate) fn try_cases(&mut self) -> Option<Ending> {
         for _ in 0..self.fuel {
             self.burn(1)?;
             self.propagate()?;
             if let Some(closing) = self.closing {
                 let conflict = self.explain(closing)?;
                 if conflict.level == 0 {
-                    return Some(conflict);
+                    return Some(Ending::Contradiction(conflict));
                 }
                 self.learn(conflict)?;
-                count = count.saturating_add(1);
+                self.restarts.add();
                 continue;
             }
-            if count > UNIT.saturating_mul(luby(restarts)) {
-                restarts = restarts.saturating_add(1);
-                count = 0;
-                self.undo_to(0)?;
-            }
-            let claim = self.choose(restarts)?;
+            let Some(claim) = self.next_case()? else {
+                return Some(Ending::Settled);
+            };
             self.open_level()?;
             self.assert(claim, Why::Assumed, &[])?;
         }
         None
+    }
+
+    // Now and then after a restart.
+    fn next_case(&mut self) -> Option<Option<Claim>> {
+        if self.restarts.are_due() {
+            self.restarts = self.restarts.next();
+            self.undo_to(0)?;
+        }
+        self.choose()
     }
 
     // Draws all that follows, until a cycle is closed or nothing is left to be looked at.
@@ -72,7 +112,7 @@ impl Search {
             match self.waiting.next() {
                 Some(Next::Raised(x)) => {
                     self.burn(1)?;
-                    self.touch_around(x)?;
+                    self.touch_around(x, Side::Before)?;
                     self.review_all(x)?;
                 }
                 Some(Next::Read(read)) => self.look_again(read)?,
@@ -97,7 +137,13 @@ impl Search {
 
     // Keeps what contradicts itself as a clause, and goes back to where that tells something new.
     fn learn(&mut self, conflict: Conflict) -> Option<()> {
-        let block = draft(self.alloc, self, &conflict)?;
+        let block = match self.goal {
+            Goal::Schedule => Derivation {
+                lines: Vec::new(self.alloc),
+                hints: Vec::new(self.alloc),
+            },
+            Goal::Refutation => draft(self.alloc, self, &conflict)?,
+        };
         let supposed = self.supposed(&conflict)?;
         let (claims, level) = self.claims(&conflict)?;
         let base = self.trail.first_steps()?;

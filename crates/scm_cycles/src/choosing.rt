@@ -1,10 +1,14 @@
 //! Which case is tried next.
 use crate::claims::Claim;
+use crate::goals::Goal;
 use crate::search::Search;
 use crate::views::{View, part};
 
 /// What a place's share of its process is counted in.
 const WHOLE: u64 = 1 << 20;
+
+/// For how many reads that are looked at one step is burnt.
+const READS_OF_STEP: u32 = 8;
 
 /// A claim, and how much speaks for it.
 #[derive(Clone, Copy)]
@@ -22,33 +26,22 @@ fn better(best: Option<Choice>, claim: Claim, weight: u64) -> Option<Choice> {
 }
 
 impl Search {
-    /// Of what is left for a read to see, as many as a view tells.
-    pub(crate) fn note_left(&mut self, view: &View) -> Option<()> {
-        let left = self.left_in(view)?;
-        let old = self.choices.left(view.read)?;
+    /// So much is left for a read to see.
+    pub(crate) fn note_left(&mut self, read: u32, left: u32) -> Option<()> {
+        let old = self.choices.left(read)?;
         if left != old {
-            self.trail.note_left(view.read, old)?;
-            self.choices.set_left(view.read, left)?;
+            self.trail.note_left(read, old)?;
+            self.choices.set_left(read, left)?;
         }
         Some(())
     }
 
-    fn left_in(&self, view: &View) -> Option<u32> {
-        let mut left = u32::from(view.is_first_left);
-        for (first, last) in view.shares.iter().filter_map(|share| share.left) {
-            let begin = self.writers.count(view.value, first)?;
-            let end = self.writers.count(view.value, last)?.checked_add(1)?;
-            let count = u32::try_from(end.checked_sub(begin)?).ok()?;
-            left = left.checked_add(count)?;
-        }
-        Some(left)
-    }
-
-    /// The case that is tried next; `None` where none is left, and the trace has a schedule.
-    pub(crate) fn choose(&mut self, restarts: u64) -> Option<Claim> {
-        self.burn(self.ops)?;
-        match self.open_read(restarts)? {
-            Some(read) => self.choose_source(read),
+    /// The case that is tried next, if there is one.
+    pub(crate) fn choose(&mut self) -> Option<Option<Claim>> {
+        self.burn(self.ops / READS_OF_STEP)?;
+        match self.open_read(self.restarts.count)? {
+            Some(read) => Some(Some(self.choose_source(read)?)),
+            None if self.goal == Goal::Schedule => Some(None),
             None => self.choose_order(),
         }
     }
@@ -135,7 +128,7 @@ impl Search {
     }
 
     // Of a write whose order to a read and what that sees isn't known.
-    fn choose_order(&self) -> Option<Claim> {
+    fn choose_order(&self) -> Option<Option<Claim>> {
         let mut best = None;
         for read in 0..self.ops {
             if let Some(source) = self.settled.source(read)? {
@@ -145,7 +138,7 @@ impl Search {
                 }
             }
         }
-        best.map(|choice| choice.claim)
+        Some(best.map(|choice| choice.claim))
     }
 
     fn open_order(&self, best: Option<Choice>, seen: Claim) -> Option<Option<Choice>> {

@@ -5,6 +5,9 @@ use crate::search::Search;
 use crate::steps::{Need, Why};
 use std::alloc::Global;
 
+/// Which part of a list of rises a way is looked for in, mostly.
+const PART_OF_LIST: usize = 8;
+
 /// That the one operation comes before the other, known since this level.
 #[derive(Clone, Copy)]
 pub(crate) struct Order {
@@ -126,8 +129,10 @@ impl Search {
     }
 
     fn add_needs_of(&mut self, conflict: &mut Conflict, needs: &[Need]) -> Option<()> {
+        let list = self.rises.len_of_list()? / PART_OF_LIST;
         for need in needs {
             self.burn(self.procs)?;
+            self.burn_for(list)?;
             if let Need::Step(id) = *need {
                 self.add_step(conflict, id)?;
             }

@@ -1,6 +1,8 @@
 //! A short refutation.
+use crate::cases::Ending;
 use crate::conflict::Conflict;
 use crate::gathering::gather;
+use crate::goals::Goal;
 use crate::search::Search;
 use scm_orders::Derivation;
 use scm_sequences::{Lengths, Sequences};
@@ -10,6 +12,9 @@ use std::alloc::Global;
 const FUEL: u64 = 32_768;
 
 const LEAST_FUEL: u64 = 1_000_000;
+
+/// The most that is looked at by cases: a second or two.
+const MOST_FUEL: u64 = 1 << 25;
 
 /// A derivation that refutes the trace with these first contents (`None` is an open cell) and these sequences, cut to
 /// these lengths, or `None` where none was found: where a schedule exists, after so many steps for each operation, where it
@@ -22,7 +27,8 @@ pub fn find_cycle(
     lengths: &Lengths,
 ) -> Option<Derivation> {
     let fuel = fuel_for(lengths);
-    let mut search = Search::new(alloc, initials, sequences, lengths, fuel)?;
+    let goal = Goal::Refutation;
+    let mut search = Search::new(alloc, goal, initials, sequences, lengths, fuel)?;
     let conflict = refute(&mut search)?;
     gather(alloc, &search, &conflict)
 }
@@ -31,7 +37,17 @@ pub fn find_cycle(
 fn refute(search: &mut Search) -> Option<Conflict> {
     match search.run()? {
         Some(closing) => search.explain(closing),
-        None => search.argue(),
+        None => refute_by_cases(search),
+    }
+}
+
+fn refute_by_cases(search: &mut Search) -> Option<Conflict> {
+    search.fuel = search.fuel.min(MOST_FUEL);
+    search.look_back()?;
+    search.touch_all()?;
+    match search.try_cases()? {
+        Ending::Contradiction(conflict) => Some(conflict),
+        Ending::Settled => None,
     }
 }
 

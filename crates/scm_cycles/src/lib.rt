@@ -1,10 +1,12 @@
-//! Short refutations that are looked for: what every legal schedule must order, by cases where nothing more follows without,
-//! until an operation comes before itself, and the lines of what that needs. Nothing of it is believed, and no contract here
-//! says more than that a call is safe and ends; `scm_orders::orders_refute` is the judge.
+//! A search by cases over what reads see: what every legal schedule must order is drawn, then a case is supposed, and what
+//! contradicts itself is learned. It ends with a source for each read, as a guess at a schedule; or with an operation that
+//! comes before itself, and the lines of what that needs: a short refutation. Nothing of it is believed, and no contract here
+//! says more than that a call is safe and ends; `scm_schedules::is_legal` and `scm_orders::orders_refute` are the judges.
 #![tactic(auto)]
 
 mod asserting;
 mod backward;
+mod candidates;
 mod cases;
 mod choices;
 mod choosing;
@@ -14,21 +16,26 @@ mod conflict;
 mod evidence;
 mod finding;
 mod gathering;
+mod goals;
 mod lines;
+mod narrowing;
 mod pieces;
 mod pruning;
-mod readers;
 mod rises;
 mod rules;
 mod search;
 mod settled;
+mod skew;
+mod sources;
 mod steps;
 mod touching;
 mod trail;
 mod truth;
+mod users;
 mod views;
 mod waiting;
 mod watching;
 mod ways;
 
 pub use finding::find_cycle;
+pub use sources::find_sources;

@@ -63,6 +63,11 @@ impl Rises {
         self.places.len()
     }
 
+    /// How many a list has, in the mean.
+    pub(crate) fn len_of_list(&self) -> Option<usize> {
+        self.places.len().checked_div(self.lists.len())
+    }
+
     /// Takes back all but the first so many.
     pub(crate) fn take_back(&mut self, kept: usize) -> Option<()> {
         for _ in kept..self.places.len() {

@@ -5,6 +5,9 @@ use crate::search::Search;
 use crate::steps::{Need, Why};
 use crate::views::{Left, View};
 
+/// How many times more a visit of an open read burns than one of another.
+const OPEN_VISIT: u32 = 2;
+
 impl Search {
     /// Draws all that follows, round by round, until a cycle is closed or nothing is new. The step that closed it, if one did.
     pub(crate) fn run(&mut self) -> Option<Option<u32>> {
@@ -35,10 +38,7 @@ impl Search {
     /// Draws what follows from what this read sees, or may see.
     pub(crate) fn visit(&mut self, read: u32, cell: u32, value: u32) -> Option<()> {
         if self.settled.source(read)?.is_none() {
-            self.burn(self.procs.checked_mul(self.procs)?)?;
-            let view = self.view(read, cell, value)?;
-            self.note_left(&view)?;
-            self.look(&view)?;
+            self.visit_open(read, cell, value)?;
         }
         if self.closing.is_none()
             && let Some(source) = self.settled.source(read)?
@@ -46,6 +46,20 @@ impl Search {
             self.follow_source(read, cell, source)?;
         }
         Some(())
+    }
+
+    fn visit_open(&mut self, read: u32, cell: u32, value: u32) -> Option<()> {
+        if self.candidates.is_some() {
+            self.burn(self.procs.saturating_mul(OPEN_VISIT))?;
+            let rest = self.narrow(read, cell, value)?;
+            self.note_left(read, rest.len())?;
+            if !self.is_telling(read, cell, rest)? {
+                return Some(());
+            }
+        }
+        self.burn(self.procs.checked_mul(self.procs)?)?;
+        let view = self.view(read, cell, value)?;
+        self.look(&view)
     }
 
     // Draws what follows from what is left for the read.
@@ -172,11 +186,9 @@ impl Search {
             if self.closing.is_some() {
                 break;
             }
-            self.draw_after_source(read, write, source, self.last_write(process, cell, read))?;
+            self.draw_after_source(read, cell, source, write, process)?;
             if self.closing.is_none() {
-                let place = self.after(write, process)?;
-                let next = self.write_from(read, cell, process, place);
-                self.draw_before_next(read, write, source, next)?;
+                self.draw_before_next(read, cell, source, write, process)?;
             }
         }
         Some(())
@@ -186,17 +198,18 @@ impl Search {
     fn draw_after_source(
         &mut self,
         read: u32,
-        write: u32,
+        cell: u32,
         source: u32,
-        last: Option<u32>,
+        write: u32,
+        process: u32,
     ) -> Option<()> {
-        if let Some(from) = last
-            && from != write
-            && !self.is_before(from, write)?
-        {
-            let needs = [Need::Step(source), Need::Order { from, to: read }];
-            self.draw(Claim::before(from, write), Why::AfterSource, &needs)?;
+        let (known, count) = (self.up_to(write, process)?, self.before(read, process)?);
+        if count <= known || !self.is_written(process, cell, known, count)? {
+            return Some(());
         }
+        let from = self.last_write(process, cell, read)?;
+        let needs = [Need::Step(source), Need::Order { from, to: read }];
+        self.draw(Claim::before(from, write), Why::AfterSource, &needs)?;
         Some(())
     }
 
@@ -204,16 +217,27 @@ impl Search {
     fn draw_before_next(
         &mut self,
         read: u32,
-        write: u32,
+        cell: u32,
         source: u32,
-        next: Option<u32>,
+        write: u32,
+        process: u32,
     ) -> Option<()> {
-        if let Some(to) = next
-            && !self.is_before(read, to)?
-        {
-            let needs = [Need::Step(source), Need::Order { from: write, to }];
-            self.draw(Claim::before(read, to), Why::BeforeAll, &needs)?;
+        let (place, known) = (self.after(write, process)?, self.after(read, process)?);
+        let (owner, _) = self.numbering.spot(read)?;
+        if owner == process || !self.is_written(process, cell, place, known)? {
+            return Some(());
         }
+        let to = self.write_from(read, cell, process, place)?;
+        let needs = [Need::Step(source), Need::Order { from: write, to }];
+        self.draw(Claim::before(read, to), Why::BeforeAll, &needs)?;
         Some(())
+    }
+
+    /// Whether a process writes the cell between two places.
+    pub(crate) fn is_written(&self, process: u32, cell: u32, from: u32, to: u32) -> Option<bool> {
+        if from >= to {
+            return Some(false);
+        }
+        Some(self.writes.count(process, cell, from)? < self.writes.count(process, cell, to)?)
     }
 }

@@ -1,32 +1,37 @@
 //! What comes before what in every legal schedule, as far as it was drawn.
 use crate::backward::lower;
+use crate::candidates::Candidates;
+use crate::cases::Restarts;
 use crate::choices::Choices;
 use crate::claims::Claim;
 use crate::clauses::Clauses;
-use crate::readers::Readers;
+use crate::goals::Goal;
 use crate::rises::Rises;
 use crate::settled::Settled;
 use crate::steps::{Need, Steps, Why};
 use crate::trail::Trail;
 use crate::waiting::Waiting;
-use scm_clocks::{Clocks, Flags, Numbering, Values, Writers, Writes};
+use scm_clocks::{Clocks, Flags, Numbering, Values, Writers, Writes, is_covered};
 use scm_orders::Place;
 use scm_sequences::{Lengths, Sequences};
 use std::alloc::Global;
 
-/// How many cells a number of 8 bits can name.
-const CELLS: u32 = 256;
+/// How many changes can be taken back at most, for each number of the clocks. A search that has more gives up.
+const CHANGES_OF_NUMBER: u64 = 64;
+
+/// How many entries of a list are looked at as fast as one unit of fuel is burnt.
+const STEPS_OF_FUEL: usize = 32;
 
 /// Clocks (for each operation, how many of each process come before it), with what raised them, and the steps that were
 /// drawn. A method that draws gives `None` where the fuel is spent.
 #[derive(Drop)]
 pub(crate) struct Search {
     pub(crate) alloc: Global,
+    pub(crate) goal: Goal,
     pub(crate) numbering: Numbering,
     pub(crate) values: Values,
     pub(crate) writes: Writes,
     pub(crate) writers: Writers,
-    pub(crate) readers: Readers,
     pub(crate) steps: Steps,
     pub(crate) procs: u32,
     pub(crate) ops: u32,
@@ -37,20 +42,27 @@ pub(crate) struct Search {
     pub(crate) trail: Trail,
     pub(crate) choices: Choices,
     pub(crate) clauses: Clauses,
+    pub(crate) restarts: Restarts,
+    /// The step by which processes don't get far ahead of each other, where that is supposed.
+    pub(crate) skew: Option<u32>,
     pub(crate) clocks: Clocks,
     /// For each operation, from which place on the operations of each process come after it: once cases are tried.
     pub(crate) afters: Option<Clocks>,
+    /// What is left for reads to see: once cases are tried.
+    pub(crate) candidates: Option<Candidates>,
     pub(crate) rises: Rises,
     /// What has new clocks to bring to those after it.
     pub(crate) flags: Flags,
     /// The step that closed a cycle, if one did.
     pub(crate) closing: Option<u32>,
     pub(crate) fuel: u64,
+    most_changes: u64,
 }
 
 impl Search {
     pub(crate) fn new(
         alloc: Global,
+        goal: Goal,
         initials: &[Option<u64>],
         sequences: &Sequences,
         lengths: &Lengths,
@@ -59,37 +71,49 @@ impl Search {
         let none_made = vec![in alloc; 0; lengths.procs()].ok()?;
         let numbering = Numbering::new(alloc, none_made.as_slice(), sequences, lengths)?;
         let values = Values::new(alloc, initials, &numbering)?;
-        Search::over(alloc, numbering, values, fuel)
+        Search::over(alloc, goal, numbering, values, fuel)
     }
 
     // Over these operations and their values.
-    fn over(alloc: Global, numbering: Numbering, values: Values, fuel: u64) -> Option<Search> {
+    fn over(
+        alloc: Global,
+        goal: Goal,
+        numbering: Numbering,
+        values: Values,
+        fuel: u64,
+    ) -> Option<Search> {
         let (procs, ops) = (numbering.procs()?, numbering.len()?);
-        let writes = Writes::new(alloc, CELLS, &numbering, &values)?;
+        let numbers = u64::from(ops).checked_mul(u64::from(procs))?;
+        let fuel = fuel.checked_sub(numbers)?;
+        let cells = u32::try_from(values.firsts().len()).ok()?;
+        let writes = Writes::new(alloc, cells, &numbering, &values)?;
         let writers = Writers::new(alloc, &numbering, &values)?;
-        let readers = Readers::new(alloc, &numbering, &values)?;
         let clocks = Clocks::new(alloc, &numbering)?;
         Some(Search {
             alloc,
+            goal,
             numbering,
             values,
             writes,
             writers,
-            readers,
             steps: Steps::new(alloc, ops)?,
             procs,
             ops,
-            settled: Settled::new(alloc, ops, CELLS)?,
+            settled: Settled::new(alloc, ops, cells)?,
             waiting: Waiting::new(alloc, ops)?,
             trail: Trail::new(alloc),
             choices: Choices::new(alloc, ops)?,
             clauses: Clauses::new(alloc, ops)?,
+            restarts: Restarts::FIRST,
+            skew: None,
             clocks,
             afters: None,
+            candidates: None,
             rises: Rises::new(alloc, procs)?,
             flags: Flags::new(alloc, ops)?,
             closing: None,
             fuel,
+            most_changes: numbers.checked_mul(CHANGES_OF_NUMBER)?,
         })
     }
 
@@ -159,7 +183,10 @@ impl Search {
             let spot = self.numbering.spot(x)?;
             let id = self.rises.first(spot, process, at.checked_add(1)?)?;
             path.push(id).ok()?;
-            x = self.steps.get(id)?.claim.from;
+            x = match self.skew {
+                Some(skew) if skew == id => from,
+                _ => self.steps.get(id)?.claim.from,
+            };
         }
         None
     }
@@ -173,6 +200,11 @@ impl Search {
     pub(crate) fn burn(&mut self, amount: u32) -> Option<()> {
         self.fuel = self.fuel.checked_sub(u64::from(amount))?;
         Some(())
+    }
+
+    /// Burns for what a list was searched for.
+    pub(crate) fn burn_for(&mut self, steps: usize) -> Option<()> {
+        self.burn(u32::try_from(steps / STEPS_OF_FUEL).ok()?)
     }
 
     /// Draws an order, with all that it brings to the clocks. Gives its number.
@@ -191,16 +223,28 @@ impl Search {
         Some(id)
     }
 
-    // Brings what is new of the clocks that are flagged to those after them.
-    fn spread(&mut self) -> Option<()> {
+    /// Brings what is new of the clocks that are flagged to those after them.
+    pub(crate) fn spread(&mut self) -> Option<()> {
         for _ in 0..self.fuel {
             let Some(x) = self.flags.next() else {
                 return Some(());
             };
             self.burn(self.procs)?;
+            self.check_room()?;
             self.spread_from(x)?;
         }
         None
+    }
+
+    // `None` where too much would have to be taken back.
+    fn check_room(&self) -> Option<()> {
+        let narrowed = match &self.candidates {
+            Some(candidates) => candidates.changes(),
+            None => 0,
+        };
+        let changes = self.clocks.changes().checked_add(narrowed)?;
+        self.most_changes.checked_sub(changes as u64)?;
+        Some(())
     }
 
     fn spread_from(&mut self, x: u32) -> Option<()> {
@@ -214,6 +258,7 @@ impl Search {
                 break;
             };
             let to = self.steps.get(id)?.claim.to;
+            self.burn(1)?;
             self.follow(to, x, leaving)?;
             leaving = self.steps.older(id);
         }
@@ -231,6 +276,9 @@ impl Search {
     // that is new.
     fn absorb(&mut self, y: u32, x: u32, by: Option<u32>) -> Option<bool> {
         let (spot, (owner, at)) = (self.numbering.spot(y)?, self.numbering.spot(x)?);
+        if self.before(y, owner)? > at && is_covered(self.clocks.row(x)?, self.clocks.row(y)?) {
+            return Some(false);
+        }
         let mut is_new = false;
         for process in 0..self.procs {
             let count = if process == owner {

@@ -1,5 +1,13 @@
 //! Which reads a change concerns.
+use crate::claims::Kind;
 use crate::search::Search;
+
+/// What has changed of an operation: what comes before it, or what comes after it.
+#[derive(Clone, Copy, PartialEq, Eq)]
+pub(crate) enum Side {
+    Before,
+    After,
+}
 
 impl Search {
     /// What is known of this read may have changed.
@@ -19,31 +27,49 @@ impl Search {
         Some(())
     }
 
-    /// What comes before or after this operation has changed: that concerns it and the reads that see it, or may see it.
-    pub(crate) fn touch_around(&mut self, x: u32) -> Option<()> {
-        if self.values.found(x).is_some() {
+    /// What comes before this operation, or after it, has changed: that concerns it and the reads that see it, or may see it.
+    pub(crate) fn touch_around(&mut self, x: u32, side: Side) -> Option<()> {
+        if self.values.found(x).is_some()
+            && (side == Side::Before || self.settled.source(x)?.is_none())
+        {
             self.touch(x)?;
         }
-        if let Some(value) = self.values.written(x) {
-            self.touch_readers(x, value)?;
+        if side == Side::After {
+            self.touch_seeing(x)?;
         }
-        Some(())
+        self.touch_open(x, side)
     }
 
-    fn touch_readers(&mut self, write: u32, value: u32) -> Option<()> {
-        let count = self.readers.of(value)?.len();
-        self.burn(u32::try_from(count).ok()?)?;
-        for at in 0..count {
-            let read = *self.readers.of(value)?.get(at)?;
-            let is_other = match self.settled.source(read)? {
-                Some(id) => self.steps.get(id)?.claim.from != write,
-                None => false,
-            };
-            if !is_other {
-                self.touch(read)?;
-            }
+    // Reads that the write is the first one that is left for, of its process, or the last one.
+    fn touch_open(&mut self, write: u32, side: Side) -> Option<()> {
+        let candidates = self.candidates.as_ref()?;
+        let users = match side {
+            Side::Before => candidates.firsts.of(write)?,
+            Side::After => candidates.lasts.of(write)?,
+        };
+        let count = users.len();
+        for read in users {
+            self.waiting.touch(*read, false)?;
         }
-        Some(())
+        self.burn_for(count)
+    }
+
+    // The reads that are known to see the write.
+    fn touch_seeing(&mut self, write: u32) -> Option<()> {
+        let mut leaving = self.steps.newest(write);
+        let mut count = 0usize;
+        for _ in 0..self.steps.len()? {
+            let Some(id) = leaving else {
+                break;
+            };
+            count = count.saturating_add(1);
+            let claim = self.steps.get(id)?.claim;
+            if claim.kind == Kind::Sees {
+                self.waiting.touch(claim.to, true)?;
+            }
+            leaving = self.steps.older(id);
+        }
+        self.burn_for(count)
     }
 
     /// `from` is about to come before `to`: what newly comes before `to` is concerned.
@@ -54,7 +80,7 @@ impl Search {
         for process in 0..self.procs {
             for at in self.before(to, process)?..self.up_to(from, process)? {
                 let x = self.numbering.number(process, at)?;
-                self.touch_around(x)?;
+                self.touch_around(x, Side::After)?;
             }
         }
         Some(())

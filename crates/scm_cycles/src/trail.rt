@@ -10,6 +10,7 @@ struct Mark {
     changes: usize,
     afters: usize,
     lefts: usize,
+    candidates: usize,
 }
 
 /// One mark for each supposition, and the counts of what was left for reads that changed under them.
@@ -52,6 +53,7 @@ impl Search {
             changes: self.clocks.changes(),
             afters: self.afters.as_ref()?.changes(),
             lefts: self.trail.lefts.len(),
+            candidates: self.candidates.as_ref()?.changes(),
         };
         self.trail.marks.push(mark).ok()
     }
@@ -72,6 +74,7 @@ impl Search {
         self.clocks.take_back(mark.changes)?;
         self.afters.as_mut()?.take_back(mark.afters)?;
         self.rises.take_back(mark.rises)?;
+        self.candidates.as_mut()?.take_back(mark.candidates)?;
         for _ in mark.lefts..self.trail.lefts.len() {
             let (read, left) = self.trail.lefts.pop()?;
             self.choices.set_left(read, left)?;

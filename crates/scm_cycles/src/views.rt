@@ -97,18 +97,18 @@ impl Search {
             view.last_writes.push(last).ok()?;
         }
         self.add_shares(&mut view)?;
-        view.is_first_left = self.is_first_left(&view)?;
+        let is_written = view.last_writes.iter().any(|last| last.is_some());
+        view.is_first_left = !is_written && self.may_see_first(read, cell, value)?;
         Some(view)
     }
 
-    fn is_first_left(&self, view: &View) -> Option<bool> {
-        let given = match self.values.first(view.cell)? {
+    /// Whether a read of this value may see first contents, where no write is known to come before it.
+    pub(crate) fn may_see_first(&self, read: u32, cell: u32, value: u32) -> Option<bool> {
+        let given = match self.values.first(cell)? {
             Some(first) => Some(first),
-            None => self.settled.first(view.cell)?.map(|(value, _)| value),
+            None => self.settled.first(cell)?.map(|(first, _)| first),
         };
-        let is_other = given.is_some_and(|first| first != view.value);
-        let is_unseen = self.unseen_first(view.read)?.is_some();
-        Some(!is_other && !is_unseen && view.last_writes.iter().all(|last| last.is_none()))
+        Some(given.is_none_or(|first| first == value) && self.unseen_first(read)?.is_none())
     }
 
     /// The step that tells that the read doesn't see first contents, if there is one.

@@ -5,9 +5,6 @@ use scm_clocks::{Numbering, Values, Writers, Writes};
 use scm_sequences::{Lengths, Sequences};
 use std::alloc::Global;
 
-/// How many values a cell has at least, in the mean, where a search over sources comes before a beam.
-const FEW_VALUES: u32 = 5;
-
 #[derive(Drop)]
 pub(crate) struct Facts {
     pub(crate) numbering: Numbering,
@@ -63,27 +60,9 @@ impl Facts {
         self.sources.get(x)
     }
 
-    /// The read `x` has this source.
-    pub(crate) fn settle(&mut self, x: u32, source: u32) -> Option<()> {
-        self.sources
-            .settle(&self.numbering, &self.values, x, source)
-    }
-
-    /// The reads have the sources that are known there.
-    pub(crate) fn take_over(&mut self, others: &Facts) -> Option<()> {
-        self.sources
-            .take_over(&self.numbering, &self.values, &others.sources)
-    }
-
-    /// Whether a cell has so few values that a state tells more than a source.
-    pub(crate) fn has_few_values(&self) -> bool {
-        self.values.count() < self.cells.saturating_mul(FEW_VALUES)
-    }
-
-    /// Whether this can't be the source of `x`, since it was excluded, or what it wrote is overwritten by another one.
-    pub(crate) fn is_excluded(&self, x: u32, source: u32) -> Option<bool> {
-        let is_overwriting = self.written(x).is_some();
-        self.sources.is_excluded(x, source, is_overwriting)
+    /// Each read has this source, where its own isn't known.
+    pub(crate) fn take_over(&mut self, sources: &[Option<u32>]) -> Option<()> {
+        self.sources.take_over(&self.numbering, sources)
     }
 
     /// Whether an operation leaves its cell as it finds it, whoever wrote the value.

@@ -1,12 +1,15 @@
-//! What a beam may burn.
+//! What a search over sources may burn.
 use scm_sequences::Lengths;
 
-/// The fuel of a beam for each situation that a search would look at.
-const FUEL_OF_SITUATION: u64 = 14;
+/// The fuel for each situation that the other search would look at: so much for four processes, and at least so much. With it
+/// the one takes about as long as the other.
+const FUEL_OF_FOUR: u64 = 5;
 
-/// The fuel of a beam before a search that has room for so many situations. There is none where the counts tell no more
-/// apart: such a search mostly settles the question itself.
-pub(crate) fn fuel_of_beam(lengths: &Lengths, room: usize) -> u64 {
+const LEAST_FUEL: u64 = 7;
+
+/// The fuel of a search over sources before one that has room for so many situations. There is none where the counts tell no
+/// more apart: the other search mostly settles the question itself then.
+pub(crate) fn fuel_of_search(lengths: &Lengths, room: usize) -> u64 {
     let mut situations: u64 = 1;
     for process in 0..lengths.procs() {
         let counts = u64::from(lengths.get(process)).saturating_add(1);
@@ -15,5 +18,9 @@ pub(crate) fn fuel_of_beam(lengths: &Lengths, room: usize) -> u64 {
     if situations <= room as u64 {
         return 0;
     }
-    (room as u64).saturating_mul(FUEL_OF_SITUATION)
+    let fuel = (lengths.procs() as u64)
+        .saturating_mul(FUEL_OF_FOUR)
+        .div_ceil(4)
+        .max(LEAST_FUEL);
+    (room as u64).saturating_mul(fuel)
 }

@@ -18,11 +18,6 @@ pub(crate) struct Order {
     pub(crate) fuel: u64,
     /// What is left of the fuel for one write's consequences.
     pub(crate) share: u64,
-    /// Whether the candidates of reads whose source isn't known are looked at, and those of the read that was looked at last.
-    pub(crate) is_narrowing: bool,
-    pub(crate) candidates: Vec<u32>,
-    /// What was visited last.
-    pub(crate) visited: u32,
 }
 
 impl Order {
@@ -35,9 +30,6 @@ impl Order {
             window: u32::MAX,
             fuel,
             share: fuel,
-            is_narrowing: false,
-            candidates: Vec::new(alloc),
-            visited: 0,
             facts,
         };
         order.flag_all()?;

@@ -1,12 +1,10 @@
 //! A proposal for a schedule.
-use crate::beam::complete_by_beam;
 use crate::beginning::Beginning;
 use crate::facts::Facts;
-use crate::fuel::fuel_of_beam;
+use crate::fuel::fuel_of_search;
 use crate::order::Order;
-use crate::search::Search;
-use crate::skews::fuel_of_search;
 use crate::walk::Walk;
+use scm_cycles::find_sources;
 use scm_sequences::{Lengths, Sequences};
 use std::alloc::Global;
 
@@ -103,41 +101,22 @@ impl Proposer<'_> {
         self.schedule(kept, &walk)
     }
 
-    /// A schedule that is made from nothing: by a walk, or else by a beam or a search over sources, if the order doesn't
-    /// contradict itself.
+    /// A schedule that is made from nothing: by a walk, or else by one in which each read has the source that a search chose.
     fn complete_from_nothing(&self) -> Option<Vec<u8>> {
         let mut walk = self.walk(0)?;
         if walk.make_all().is_some() {
             return self.schedule(0, &walk);
         }
-        let fuel = fuel_of_beam(self.lengths, self.room);
-        if fuel == 0 {
-            return None;
-        }
-        let facts = &walk.order.facts;
-        if facts.has_few_values() {
-            if let Some(schedule) = complete_by_beam(self.alloc, facts, fuel) {
-                return Some(schedule);
-            }
-            return self.complete_by_search(facts, self.room / 2);
-        }
-        if let Some(schedule) = self.complete_by_search(facts, self.room) {
-            return Some(schedule);
-        }
-        complete_by_beam(self.alloc, facts, fuel)
-    }
-
-    /// A schedule in which each read has the source that a search chose. `None` at once where not each operation could be
-    /// visited.
-    fn complete_by_search(&self, facts: &Facts, situations: usize) -> Option<Vec<u8>> {
-        let fuel = fuel_of_search(situations, facts.procs)?;
-        if fuel < u64::from(facts.ops) {
-            return None;
-        }
-        let mut search = Search::new(self.alloc, self.order(0)?)?;
-        search.settle_under_skews(fuel)?;
+        let fuel = fuel_of_search(self.lengths, self.room);
+        let sources = find_sources(
+            self.alloc,
+            self.initials,
+            self.sequences,
+            self.lengths,
+            fuel,
+        )?;
         let mut facts = self.facts(0)?;
-        facts.take_over(&search.order.facts)?;
+        facts.take_over(sources.as_slice())?;
         let mut walk = Walk::new(self.alloc, self.saturated(facts)?, self.patience())?;
         walk.make_all()?;
         self.schedule(0, &walk)

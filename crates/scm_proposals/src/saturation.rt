@@ -19,7 +19,6 @@ impl Order {
                 return Some(());
             };
             self.burn()?;
-            self.visited = x;
             self.visit(x)?;
         }
         None
@@ -35,14 +34,11 @@ impl Order {
             is_new = self.follow_source(x, source)? || is_new;
         }
         is_new = self.follow_clock(x)? || is_new;
-        is_new = self.follow_candidates_of(x)? || is_new;
         if self.facts.written(x).is_some() {
             is_new = self.follow_readers(x)? || is_new;
         }
         if let Some(source) = self.facts.source(x) {
             self.push_source(x, source)?;
-        } else if self.is_narrowing && self.facts.found(x).is_some() {
-            self.precede_next(x)?;
         }
         if is_new {
             self.flag_dependents(x)?;
@@ -66,25 +62,6 @@ impl Order {
             Some(y) => self.absorb(x, y),
             None => Some(false),
         }
-    }
-
-    // Where the source of a read isn't known, what its candidates say.
-    fn follow_candidates_of(&mut self, x: u32) -> Option<bool> {
-        if !self.is_narrowing || self.facts.source(x).is_some() || self.facts.found(x).is_none() {
-            return Some(false);
-        }
-        let mut is_new = false;
-        for _ in 0..self.facts.ops {
-            if !self.narrow(x)? {
-                break;
-            }
-            is_new = true;
-            if let Some(source) = self.facts.source(x) {
-                self.follow_source(x, source)?;
-                break;
-            }
-        }
-        Some(is_new)
     }
 
     // A read comes after its source.

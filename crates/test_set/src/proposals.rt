@@ -97,22 +97,15 @@ fn decides(
     is_decided(rt, alloc, &zeros, &sequences, room)
 }
 
-/// Here all states of the beam die, and it finds a schedule after it went back. One that never goes back, or is made no wider,
-/// finds none of the four, one that always begins anew only the third, and one that goes equally far back each time all but
-/// that.
+/// Here cases contradict each other: without what is learned from that none of the four is found.
 #[test]
-fn a_beam_goes_back(rt: HostRuntime) {
-    for (seed, accesses, room) in [
-        (5, 60, 3_000),
-        (77, 60, 3_000),
-        (1_314, 100, 5_200),
-        (1_707, 100, 5_200),
-    ] {
-        assert!(rt; decides(&rt, rt.alloc(), FEW_VALUES, seed, accesses, room));
+fn contradictions_are_learned_from(rt: HostRuntime) {
+    for seed in [2, 5, 8, 18] {
+        assert!(rt; decides(&rt, rt.alloc(), FEW_VALUES, seed, 120, 10_000));
     }
 }
 
-/// Neither a walk nor a beam finds these: the sources of reads are searched.
+/// No walk alone finds these: the sources of reads are searched.
 #[test]
 fn sources_are_searched(rt: HostRuntime) {
     for seed in [2, 8] {
@@ -120,10 +113,10 @@ fn sources_are_searched(rt: HostRuntime) {
     }
 }
 
-/// The fuel ends in the walk, in the first order of a search, under a skew, and in the beam.
+/// The fuel ends in the walk, before the search, under a skew, and where none is supposed any more.
 #[test]
 fn fuel_ends_anywhere(rt: HostRuntime) {
-    for room in [0, 100, 1_000, 5_000] {
+    for room in [0, 100, 1_000, 2_000] {
         assert!(rt; !decides(&rt, rt.alloc(), SEVERAL_VALUES, 2, 120, room));
     }
 }
