@@ -71,6 +71,23 @@ def situations_that_need_more_room():
     yield "a why t", "a " + grid(100, 80).replace("/", ",0/")
 
 
+def situations_that_outgrow_words():
+    """Two thousand situations are held in words, and then cells with many values are reported, so that no word has room."""
+    many = [f"z{cell}" for cell in range(30)]
+    yield from opened(3, 100_000, ["x", "y", *many])
+    yield "a do t 2 lw x 999", "a ok"
+    yield from stores(0, "x", 1, 45)
+    yield from stores(1, "y", 1, 45)
+    yield "a ask t", "a inconsistent"
+    for last, cells in ((46, many[:10]), (47, many[10:])):
+        for cell in cells:
+            yield from stores(2, cell, 1, 15)
+        yield from stores(0, "x", last, last)
+        yield "a ask t", "a inconsistent"
+    listed = [f" {x},{y},0/{x},{y}{30 * ',0'}" for x in range(48) for y in range(46)]
+    yield "a why t", f"a because {len(listed)}{''.join(listed)}"
+
+
 def eight_processes_of_a_thousand_operations():
     """What a memory did with stores of new values and loads, reported process by process: no budget of situations settles
     the question, and a schedule is proposed."""
@@ -96,6 +113,7 @@ def two_processes_by_turns():
 
 ROWS = [
     a_long_process, thousands_of_situations, seventy_thousand_situations, situations_that_need_more_room,
+    situations_that_outgrow_words,
     eight_processes_of_a_thousand_operations, two_processes_by_turns,
 ]
 
