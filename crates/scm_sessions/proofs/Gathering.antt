@@ -1,5 +1,5 @@
 -- A line reader's line grows byte by byte, up to the limit, while a piece of the script comes in.
-use Rattle.std.proofs.Common.{◌≡◌, ◌≢◌, ℕ, zero, suc, ◌==◌, ◌<◌, ◌≤◌, List, [], ◌∷◌, ◌++◌, ◌+◌, ◌-◌, ◌||◌, length, take, drop, get_or, refl, sym, ap, ◌∙◌, arith, ⊎_elim, true≢false, eq-eqb, eqb-true, ap₂, append_assoc, Option, None, Some, Bool, true, false, nat_lt, min, if◌then◌else◌, length-append, length-take, length-drop}
+use Rattle.std.proofs.Common.{◌≡◌, ◌≢◌, ℕ, zero, suc, ◌==◌, ◌<◌, ◌≤◌, List, [], ◌∷◌, ◌++◌, ◌+◌, ◌-◌, ◌||◌, length, take, drop, get_or, refl, sym, ap, ◌∙◌, arith, ⊎_elim, true≢false, eq-eqb, eqb-true, ap₂, append_assoc, Option, None, Some, IfSome, Bool, true, false, nat_lt, min, if◌then◌else◌, length-append, length-take, length-drop}
 use Rattle.std.proofs.lemmas.Bool.{lt-ltb, le-ltb, ltb-false, cases_lt}
 use Rattle.std.proofs.lemmas.List.{take_all, take-take, take-append-le, take-append-drop, drop-take, drop-drop, drop_more, length-take-le}
 use Rattle.std.proofs.lemmas.List.Sums.{fails_before_first}
@@ -153,6 +153,11 @@ no_feed_before (b ∷ bytes) (suc n) within other =
     let P : ℕ → Type 0 = λ b. b ≢ 10 in
     All-cons P b (take n bytes) (no_feed_at b (other 0 (omega arith)))
     (no_feed_before bytes n (omega arith) (λ k below. other (suc k) (omega arith)))
+
+-- the first line feed stands among the unread bytes, where one does
+pub feed_within : (feed : Option ℕ) (unread : List ℕ) → feed ≡ position (λ b. b == 10) unread → IfSome feed (λ place. place < length unread)
+feed_within None unread is = tt
+feed_within (Some place) unread is = (position-Some (λ b. b == 10) unread place 0 (sym is)).0
 
 -- the line feed is among the unread bytes
 pub TakesLine-feed : {a b : Option (List ℕ)} {line : List ℕ} {is_long : Bool} (known : Option (List ℕ)) (unread later now : List ℕ)

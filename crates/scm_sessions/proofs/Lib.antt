@@ -19,4 +19,3 @@ pub mod GroupNames
 pub mod GroupAnswers
 pub mod EachRuns
 pub mod Entered
-mod WithText

@@ -7,11 +7,10 @@ ghost use Rattle.scm_sessions.specs.Words.{words_of};
 ghost use Rattle.scm_sessions.specs.Asking.{good, asked_by, declarations_of_words, open_of_words, report_of_words, claim_of_words, release_of_words, back_of_words, raise_of_words, show_of_words, mark_of_words, close_of_words, ask_of_words, why_of_words, cycle_of_words, list_of_words, call_of, call_of_words};
 
 use crate::arguments::{
-    read_access_words, read_name_alone, read_name_and_count, read_name_and_mark,
+    read_access_words, read_declarations, read_name_alone, read_name_and_count, read_name_and_mark,
 };
 use crate::asking::{Asked, read_asked};
 use crate::commands::{Command, read_command};
-use crate::declarations::read_declarations;
 use crate::words::split_word;
 use scm_book::Call;
 use scm_cells::{Name, read_count};

@@ -1,5 +1,6 @@
 //! The lines of a script, one at a time.
-ghost use Rattle.std.specs.Prelude.{◌≡◌, ◌==◌, ◌<◌, ◌≤◌, length, position, IfSome, vec_capacity, vec_len};
+ghost use Rattle.std.specs.Prelude.{◌≡◌, ◌==◌, ◌<◌, ◌≤◌, length, take, drop, position, IfSome, vec_capacity, vec_len};
+ghost use Rattle.std.proofs.Props.{props};
 ghost use Rattle.scm_sequences.specs.declared.limits.TheConstants.{LONGEST_LINE};
 ghost use Rattle.scm_sessions.specs.declared.reading.TheConstants.{CHUNK};
 
@@ -22,17 +23,20 @@ pub(crate) enum Cut {
     End,
 }
 
-/// Reads a script line by line. It holds one line and what one read gave.
+/// Reads a script line by line. It holds one line and what one read gave, and knows where the first line feed stands among
+/// the bytes at hand: so a line is searched for its end once.
 #[derive(Drop)]
 pub(crate) struct LineReader {
     chunk: Vec<u8>,
     start: usize,
     end: usize,
+    feed: Option<usize>,
     line: Vec<u8>,
     is_long: bool,
     ghost ordered: { start ≤ end },
     ghost within: { end ≤ vec_len chunk },
     ghost whole: { vec_len chunk ≡ CHUNK },
+    ghost first: { feed ≡ position (λ b. b == 10) (drop start (take end chunk.items)) } by { Prim.hlevel props },
     ghost room: { LONGEST_LINE ≤ vec_capacity line },
 }
 
@@ -45,7 +49,7 @@ fn first_feed(bytes: &[u8]) -> Option<usize>
 }
 
 impl LineReader {
-    ghost use Rattle.std.specs.Prelude.{◌≡◌, ◌<◌, ◌≤◌, ◌+◌, ◌||◌, ℕ, List, ◌++◌, [], length, take, drop, nat_lt, true, false, IfOk, OnErr, MatchBool, MatchResult, option_copied};
+    ghost use Rattle.std.specs.Prelude.{◌≡◌, ◌==◌, ◌<◌, ◌≤◌, ◌+◌, ◌||◌, ℕ, List, ◌++◌, [], length, take, drop, position, nat_lt, true, false, is_some, IfSome, IfOk, OnErr, MatchBool, MatchResult, option_copied};
     ghost use Rattle.std.specs.Io.KnownBytes.{Keeps, Consumes, IsAtEnd};
     ghost use Rattle.scm_sequences.specs.declared.limits.TheConstants.{LONGEST_LINE};
     ghost use Rattle.scm_sessions.specs.Lines.{line_given, HasNoFeed};
@@ -60,21 +64,25 @@ impl LineReader {
             chunk: vec![in alloc; 0; CHUNK]?,
             start: 0,
             end: 0,
+            feed: None,
             line: Vec::with_capacity(alloc, LONGEST_LINE)?,
             is_long: false,
         })
     }
 
-    /// The bytes at hand: those that were read and not yet taken.
-    fn unread(&self) -> &[u8]
-        ensures { result.now ≡ unread_of self.now }
+    /// Where the first line feed stands among the bytes at hand: those that were read and not yet taken.
+    fn feed(&self) -> Option<usize>
+        ensures place { result ≡ position (λ b. b == 10) (unread_of self.now) }
+        ensures within { IfSome result (λ place. place < length (unread_of self.now)) }
     {
-        &self.chunk[self.start..self.end]
+        self.feed
     }
 
     /// Whether the next line can be taken up to its line feed without a read.
-    pub(crate) fn holds_line(&self) -> bool {
-        first_feed(self.unread()).is_some()
+    pub(crate) fn holds_line(&self) -> bool
+        ensures { result ≡ is_some (position (λ b. b == 10) (unread_of self.now)) }
+    {
+        self.feed.is_some()
     }
 
     /// Whether a byte of the script is at hand. Asks the port only where none is left of its last read.
@@ -92,6 +100,7 @@ impl LineReader {
             let filled = port.read(&mut self.chunk)?;
             self.start = 0;
             self.end = filled;
+            self.feed = first_feed(&self.chunk[..filled]);
         }
         Ok(self.start < self.end)
     }
@@ -110,19 +119,20 @@ impl LineReader {
         let kept = count.min(LONGEST_LINE - self.line.len());
         self.line.extend_from_slice(&unread[..kept]).unwrap();
         self.is_long |= kept < count;
-        self.start += count;
+        self.skip_bytes(count);
     }
 
-    /// Leaves one of the bytes at hand out.
-    fn skip_byte(&mut self)
-        requires { 0 < length (unread_of self.old) }
-        ensures unread { unread_of self.new ≡ drop 1 (unread_of self.old) }
+    /// Leaves so many of the bytes at hand out, and searches the others for a line feed.
+    fn skip_bytes(&mut self, count: usize)
+        requires { count ≤ length (unread_of self.old) }
+        ensures unread { unread_of self.new ≡ drop count (unread_of self.old) }
         ensures line { self.new.line ≡ self.old.line }
         ensures is_long { self.new.is_long ≡ self.old.is_long }
-        ensures start { self.new.start ≡ self.old.start + 1 }
+        ensures start { self.new.start ≡ self.old.start + count }
         ensures end { self.new.end ≡ self.old.end }
     {
-        self.start += 1;
+        self.start += count;
+        self.feed = first_feed(&self.chunk[self.start..self.end]);
     }
 
     /// Takes the next line of the script and holds it. A line that is longer than `LONGEST_LINE` bytes is read to
@@ -138,9 +148,9 @@ impl LineReader {
         self.line.clear();
         self.is_long = false;
         while self.has_bytes(port)? {
-            if let Some(place) = first_feed(self.unread()) {
+            if let Some(place) = self.feed() {
                 self.take_bytes(place);
-                self.skip_byte();
+                self.skip_bytes(1);
                 return Ok(Cut::Whole);
             }
             self.take_bytes(self.end - self.start);
@@ -161,7 +171,7 @@ impl LineReader {
         }
         match self.line.as_slice() {
             [front @ .., b'\r'] => Some(front),
-            whole => Some(whole),
+            line => Some(line),
         }
     }
 }

@@ -1,13 +1,13 @@
 //! The text of replies.
-ghost use Rattle.std.specs.Prelude.{◌≡◌, codes, false, is_err, option_copied, unwrap_or, IfErr};
-ghost use Rattle.scm_book.specs.Calls.{reply_data, marked, listed, refused};
+ghost use Rattle.std.specs.Prelude.{◌≡◌, ◌∷◌, ◌++◌, codes, false, flat_map, is_err, option_copied, unwrap_or, IfErr};
+ghost use Rattle.scm_book.specs.Calls.{reply_data, marked, consistent, ops, listed, refused};
 ghost use Rattle.scm_sessions.specs.Ports.{inner_of, has_failed, reads_of, Writes, Sends};
-ghost use Rattle.scm_sessions.specs.Replies.{reply_text, reply_line};
+ghost use Rattle.scm_sessions.specs.Replies.{spaced, fixed_text, with_text, shown_text, reply_text, reply_line};
 
 use crate::{Port, RunFault};
-use scm_book::Reply;
+use scm_book::{Reply, Shown};
 use scm_cells::Name;
-use scm_sequences::Refusal;
+use scm_sequences::{Op, Refusal};
 use std::io::Write;
 
 /// The reply to a line, and the name of the session that it goes to, where the line has one.
@@ -18,7 +18,7 @@ pub struct Answer {
 }
 
 /// The name of a session as it stands in a reply.
-fn shown(name: Option<&Name>) -> &[u8]
+fn shown_name(name: Option<&Name>) -> &[u8]
     ensures { result.now ≡ unwrap_or (option_copied name.entry) (codes "?") }
 {
     match name {
@@ -28,6 +28,109 @@ fn shown(name: Option<&Name>) -> &[u8]
 }
 
 impl<W: Write> Port<W> {
+    /// Puts a fixed value, with a space before it: the name of its cell, an equals sign and the value.
+    fn put_fixed_value(&mut self, fixed: (Name, u64))
+        ensures bytes { Sends (W.contents (inner_of self.old)) (has_failed self.old)
+            (W.contents (inner_of self.new)) (has_failed self.new) (fixed_text fixed) }
+        ensures reads { reads_of self.new ≡ reads_of self.old }
+    {
+        let (cell, value) = fixed;
+        self.put_spaced_name(cell);
+        self.put(b"=");
+        self.put_number(value);
+    }
+
+    /// Puts each of these fixed values.
+    fn put_fixed_values(&mut self, fixed: &[(Name, u64)])
+        ensures bytes { Sends (W.contents (inner_of self.old)) (has_failed self.old)
+            (W.contents (inner_of self.new)) (has_failed self.new) (flat_map fixed_text fixed.now) }
+        ensures reads { reads_of self.new ≡ reads_of self.old }
+    {
+        for value in fixed {
+            self.put_fixed_value(*value);
+        }
+    }
+
+    /// Puts what stands behind a schedule: these fixed values, where there are any.
+    fn put_with(&mut self, fixed: &[(Name, u64)])
+        ensures bytes { Sends (W.contents (inner_of self.old)) (has_failed self.old)
+            (W.contents (inner_of self.new)) (has_failed self.new) (with_text fixed.now) }
+        ensures reads { reads_of self.new ≡ reads_of self.old }
+    {
+        if !fixed.is_empty() {
+            self.put(b" with");
+            self.put_fixed_values(fixed);
+        }
+    }
+
+    /// Puts the reply that a trace is consistent: the process numbers of a schedule, and its fixed values.
+    fn put_consistent(&mut self, schedule: &[u8], fixed: &[(Name, u64)])
+        ensures bytes { Sends (W.contents (inner_of self.old)) (has_failed self.old)
+            (W.contents (inner_of self.new)) (has_failed self.new) (reply_text (consistent schedule.now fixed.now)) }
+        ensures reads { reads_of self.new ≡ reads_of self.old }
+    {
+        self.put(b"consistent ");
+        self.put_number(schedule.len() as u64);
+        self.put_numbers(schedule);
+        self.put_with(fixed);
+    }
+
+    /// Puts the letters of an operation, the name of its cell and its first value.
+    fn put_labelled(&mut self, letters: &[u8], cell: Name, value: u64)
+        ensures bytes { Sends (W.contents (inner_of self.old)) (has_failed self.old)
+            (W.contents (inner_of self.new)) (has_failed self.new) (letters.now ++ cell ++ spaced value) }
+        ensures reads { reads_of self.new ≡ reads_of self.old }
+    {
+        self.put(letters);
+        self.put(cell.bytes());
+        self.put_value(value);
+    }
+
+    /// Puts a read and a write in one step.
+    fn put_read_write(&mut self, cell: Name, old: u64, new: u64)
+        ensures bytes { Sends (W.contents (inner_of self.old)) (has_failed self.old)
+            (W.contents (inner_of self.new)) (has_failed self.new) (codes " RW " ++ cell ++ spaced old ++ spaced new) }
+        ensures reads { reads_of self.new ≡ reads_of self.old }
+    {
+        self.put_labelled(b" RW ", cell, old);
+        self.put_value(new);
+    }
+
+    /// Puts an operation, with a space before it.
+    fn put_operation(&mut self, shown: &Shown)
+        ensures bytes { Sends (W.contents (inner_of self.old)) (has_failed self.old)
+            (W.contents (inner_of self.new)) (has_failed self.new) (shown_text shown.now) }
+        ensures reads { reads_of self.new ≡ reads_of self.old }
+    {
+        match shown.op {
+            Op::R { value, .. } => self.put_labelled(b" R ", shown.cell, value),
+            Op::W { value, .. } => self.put_labelled(b" W ", shown.cell, value),
+            Op::Rw { old, new, .. } => self.put_read_write(shown.cell, old, new),
+        }
+    }
+
+    /// Puts each of these operations.
+    fn put_each(&mut self, operations: &[Shown])
+        ensures bytes { Sends (W.contents (inner_of self.old)) (has_failed self.old)
+            (W.contents (inner_of self.new)) (has_failed self.new) (flat_map shown_text operations.now) }
+        ensures reads { reads_of self.new ≡ reads_of self.old }
+    {
+        for shown in operations {
+            self.put_operation(shown);
+        }
+    }
+
+    /// Puts the reply that shows the operations of a process.
+    fn put_operations(&mut self, operations: &[Shown])
+        ensures bytes { Sends (W.contents (inner_of self.old)) (has_failed self.old)
+            (W.contents (inner_of self.new)) (has_failed self.new) (reply_text (ops operations.now)) }
+        ensures reads { reads_of self.new ≡ reads_of self.old }
+    {
+        self.put(b"ops ");
+        self.put_number(operations.len() as u64);
+        self.put_each(operations);
+    }
+
     /// Puts the number of a mark that was set.
     fn put_mark(&mut self, mark: u64)
         ensures bytes { Sends (W.contents (inner_of self.old)) (has_failed self.old)
@@ -89,7 +192,7 @@ impl<W: Write> Port<W> {
             (reply_line (option_copied name.entry) (reply_data reply.now)) }
         ensures reads { reads_of self.new ≡ reads_of self.old }
     {
-        self.put(shown(name));
+        self.put(shown_name(name));
         self.put(b" ");
         self.put_reply(reply);
         self.put(b"\n");

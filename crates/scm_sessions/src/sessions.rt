@@ -38,6 +38,13 @@ impl Model for Sessions {
     ghost invariant = { λ s. length s.names.keys ≤ MOST_SESSIONS };
 }
 
+/// Whether a session of this name can't enter: the name is new, and all sessions have entered.
+pub(crate) fn turns_away(names: &IndexSet<Name>, name: &Name) -> bool
+    ensures { result ≡ is_turned_away names.now.keys name.now }
+{
+    names.len() >= MOST_SESSIONS && !names.contains(name)
+}
+
 impl Sessions {
     /// No session has entered.
     pub fn new(alloc: Global, book: Book) -> Sessions
@@ -47,13 +54,6 @@ impl Sessions {
             names: IndexSet::new(alloc),
             book,
         }
-    }
-
-    /// Whether a session of this name can't enter: the name is new, and all sessions have entered.
-    fn turns_away(&self, name: &Name) -> bool
-        ensures { result ≡ is_turned_away self.now.names name.now }
-    {
-        self.names.len() >= MOST_SESSIONS && !self.names.contains(name)
     }
 
     /// The number of the session of this name, which enters where it is new. Refused `TooManySessions` where all
@@ -66,7 +66,7 @@ impl Sessions {
         ensures unchanged { OnErr result (self.new.names ≡ self.old.names) }
         ensures book { self.new.book ≡ self.old.book }
     {
-        if self.turns_away(&name) {
+        if turns_away(&self.names, &name) {
             return Err(Refusal::TooManySessions);
         }
         let Ok((place, _)) = self.names.insert_full(name) else {

@@ -3,14 +3,15 @@ ghost use Rattle.std.specs.Prelude.{◌≡◌, ◌<◌, ◌≤◌, ◌⊎◌, �
 ghost use Rattle.scm_sequences.specs.declared.refusal.Refusal.TheVariants.{NoMemory, TooManySessions};
 ghost use Rattle.scm_sequences.specs.declared.limits.TheConstants.{MOST_SESSIONS};
 ghost use Rattle.scm_shared.specs.Passes.{newcomer};
-ghost use Rattle.scm_sessions.specs.Script.{session_of, with_name, is_turned_away};
+ghost use Rattle.scm_sessions.specs.Script.{session_of, with_name};
 ghost use Rattle.scm_sessions.specs.Callers.{callers, made_by, AreNumberedFrom};
 
 use crate::answers::MakeCalls;
+use crate::sessions::turns_away;
 use indexmap::IndexSet;
 use scm_book::{Call, Reply};
 use scm_cells::Name;
-use scm_sequences::{MOST_SESSIONS, Refusal};
+use scm_sequences::Refusal;
 use scm_shared::{BookNaming, Pass, SharedBook};
 use std::alloc::Global;
 use std::marker::Model;
@@ -38,13 +39,6 @@ impl<'a, B: BookNaming, T: Wait> Model for SharedSessions<'a, B, T> {
         (length s.names.keys ≤ MOST_SESSIONS)
         × (length s.passes.items ≡ length s.names.keys)
         × AreNumberedFrom 0 s.passes.items };
-}
-
-/// Whether a session of this name can't enter: the name is new, and all sessions have entered.
-fn turns_away(names: &IndexSet<Name>, name: &Name) -> bool
-    ensures { result ≡ is_turned_away names.now.keys name.now }
-{
-    names.len() >= MOST_SESSIONS && !names.contains(name)
 }
 
 /// The place of this name, which comes last where it is new. Unchanged where memory is refused.

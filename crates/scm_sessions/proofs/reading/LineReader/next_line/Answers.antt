@@ -1,4 +1,4 @@
-use Rattle.std.proofs.Common.{◌≡◌, ◌<◌, ◌-◌, length, drop, position, ◌==◌, rules, sym, ap, ◌∙◌}
+use Rattle.std.proofs.Common.{◌≡◌, ◌<◌, ◌-◌, length, drop, rules, sym, ap, ◌∙◌}
 use Rattle.scm_sessions.specs.Reading.{unread_of}
 use Rattle.scm_sessions.proofs.Gathering.{unread_length, taken_within, HasGathered-same, HasGathered-all, TakesLine-feed, TakesLine-last}
 use Rattle.scm_sessions.proofs.reading.LineReader.next_line.Goals as goal
@@ -7,11 +7,11 @@ pub returns-in-Some-clause-ok : goal.returns-in-Some-clause-ok
 returns-in-Some-clause-ok g c =
     let same : c.has_bytes.new.self.line.items ≡ c.loop-self.self.line.items = cc in
     let gathered = HasGathered-same c.loop-self.invariant.gathered same c.has_bytes.ensures.is_long in
-    let now : c.skip_byte.new.self.line.items ≡ c.take_bytes.new.self.line.items = cc in
-    TakesLine-feed _ (unread_of c.has_bytes.new.self) (unread_of c.skip_byte.new.self) c.skip_byte.new.self.line.items
-    c.skip_byte.new.self.is_long c.in-Some.place gathered c.has_bytes.ensures.kept (sym (c.first_feed.ensures.place ∙ ap (position (λ b. b == 10)) c.unread.ensures) ∙ c.in-Some.is)
-    (now ∙ c.take_bytes.ensures.line) (c.skip_byte.ensures.is_long ∙ c.take_bytes.ensures.is_long)
-    (c.skip_byte.ensures.unread ∙ ap (drop 1) c.take_bytes.ensures.unread)
+    let now : c.skip_bytes.new.self.line.items ≡ c.take_bytes.new.self.line.items = cc in
+    TakesLine-feed _ (unread_of c.has_bytes.new.self) (unread_of c.skip_bytes.new.self) c.skip_bytes.new.self.line.items
+    c.skip_bytes.new.self.is_long c.in-Some.place gathered c.has_bytes.ensures.kept (sym c.feed.ensures.place ∙ c.in-Some.is)
+    (now ∙ c.take_bytes.ensures.line) (c.skip_bytes.ensures.is_long ∙ c.take_bytes.ensures.is_long)
+    (c.skip_bytes.ensures.unread ∙ ap (drop 1) c.take_bytes.ensures.unread)
 
 pub loop-self-preserved : goal.loop-self-preserved
 loop-self-preserved g c = record {
@@ -22,7 +22,7 @@ loop-self-preserved g c = record {
       unread_length c.has_bytes.new.self.start c.has_bytes.new.self.end c.has_bytes.new.self.chunk.items (search rules) in
       HasGathered-all _ (unread_of c.has_bytes.new.self) (unread_of c.take_bytes-in-loop-self.new.self)
       c.take_bytes-in-loop-self.new.self.line.items c.take_bytes-in-loop-self.new.self.is_long _ gathered c.has_bytes.ensures.kept
-      (sym (c.first_feed.ensures.place ∙ ap (position (λ b. b == 10)) c.unread.ensures) ∙ c.in_default.is) all c.take_bytes-in-loop-self.ensures.line
+      (sym c.feed.ensures.place ∙ c.in_default.is) all c.take_bytes-in-loop-self.ensures.line
       c.take_bytes-in-loop-self.ensures.is_long c.take_bytes-in-loop-self.ensures.unread;
   room = taken_within _ _ c.take_bytes-in-loop-self.ensures.line;
   budget = search rules;

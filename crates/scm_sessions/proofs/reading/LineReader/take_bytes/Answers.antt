@@ -10,5 +10,6 @@ returns-clause-line c =
     let kept : c.min-kept.result ≡ min c.args.count (LONGEST_LINE - length line) = search rules in
     let unread : take (c.args.self.now.end - c.args.self.now.start) (drop c.args.self.now.start c.deref.result.now) ≡ unread_of c.args.self.now =
     unread_is c.args.self.now.start c.args.self.now.end c.deref.result.now c.args.self.now.chunk.items c.args.self.now.ordered c.deref.ensures.value in
-    rw c.unwrap.ensures at c.extend_from_slice.ensures.items ∙ ap₂ (λ n bytes. line ++ take n bytes) kept unread
+    let same : c.skip_bytes.new.self.line.items ≡ c.extend_from_slice.new.self.items = cc in
+    same ∙ rw c.unwrap.ensures at c.extend_from_slice.ensures.items ∙ ap₂ (λ n bytes. line ++ take n bytes) kept unread
     ∙ taken_more line (unread_of c.args.self.now) c.args.count c.requires.room
