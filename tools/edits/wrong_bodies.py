@@ -110,11 +110,12 @@ def stand_apart(one, other):
     return one.name != other.name and not one.calls(other) and not other.calls(one)
 
 
-def batches_of(edits):
-    """The edits in batches, in each of which no two change one function, or functions of which one calls the other."""
+def batches_of(edits, most):
+    """The edits in batches of at most so many, in each of which no two change one function, or functions of which one calls the
+    other."""
     batches = []
     for edit in edits:
-        fits = (it for it in batches if all(stand_apart(edit.function, beside.function) for beside in it))
+        fits = (it for it in batches if len(it) < most and all(stand_apart(edit.function, beside.function) for beside in it))
         batch = next(fits, None)
         if batch is None:
             batches.append(batch := [])
