@@ -1,6 +1,7 @@
 //! The run of a script, from bytes to bytes.
-ghost use Rattle.std.specs.Prelude.{◌≡◌, ◌≢◌, ◌↔◌, ℕ, List, [], true, false, is_err, IfOk, IfErr, OnOk, IsErrOf, option_copied};
+ghost use Rattle.std.specs.Prelude.{◌≡◌, ◌≢◌, ◌≤◌, ◌↔◌, ℕ, List, [], true, false, is_err, IfOk, IfErr, OnOk, IsErrOf, option_copied, vec_capacity};
 ghost use Rattle.std.specs.Io.KnownBytes.{Keeps};
+ghost use Rattle.scm_sequences.specs.declared.limits.TheConstants.{MOST_SESSIONS};
 ghost use Rattle.scm_sessions.specs.Lines.{line_given};
 ghost use Rattle.scm_sessions.specs.Asking.{asked_by};
 ghost use Rattle.scm_sessions.specs.Ports.{inner_of, has_failed, Writes};
@@ -19,9 +20,20 @@ use crate::sessions::Sessions;
 use crate::{Findings, Port, RunFault};
 use scm_book::Book;
 use scm_cells::Name;
-use scm_sequences::MOST_SESSIONS;
+use scm_sequences::{MOST_SESSIONS, NoMemory};
 use std::alloc::Global;
 use std::io::{Read, Write};
+
+/// What a run over the lines of a script begins with: a reader of lines, and room for the names of all sessions.
+pub(crate) fn begin_lines(alloc: Global) -> Result<(LineReader, Vec<Name>), NoMemory>
+    ensures fresh { IfOk result (λ begun. unread_of begun.0 ≡ []) }
+    ensures empty { IfOk result (λ begun. begun.1.items ≡ []) }
+    ensures fits { IfOk result (λ begun. MOST_SESSIONS ≤ vec_capacity begun.1) }
+{
+    let lines = LineReader::new(alloc)?;
+    let names = Vec::with_capacity(alloc, MOST_SESSIONS)?;
+    Ok((lines, names))
+}
 
 /// Answers a line, and hands the reply to the writer where it has one; `None` stands for a line that is too long. The answer
 /// goes into the findings.
@@ -136,8 +148,8 @@ pub fn run_script<R: Read, W: Write>(
     ensures no_memory { IsErrOf result RunFault.NoMemory →
         (reader.new ≡ reader.old) × (writer.new ≡ writer.old) }
 {
-    let mut lines = LineReader::new(alloc)?;
-    let Ok(names) = Vec::with_capacity(alloc, MOST_SESSIONS) else {
+    let Ok((mut lines, names)) = begin_lines(alloc) else {
+        drop(book);
         return Err(RunFault::NoMemory);
     };
     let mut sessions = Sessions::new(alloc, book);

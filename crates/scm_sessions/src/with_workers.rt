@@ -11,13 +11,12 @@ ghost use Rattle.scm_sessions.specs.Callers.{AreNumberedFrom, RunsCallers};
 ghost use Rattle.scm_sessions.specs.SharedRuns.{AllFit, IsSharedRun};
 
 use crate::reading::LineReader;
-use crate::run::run_lines;
+use crate::run::{begin_lines, run_lines};
 use crate::shared_sessions::SharedSessions;
 use crate::{Ended, Findings, Port, RunFault};
 use scm_cells::Name;
 use scm_expand::{Gate, run_workers};
 use scm_results::Tally;
-use scm_sequences::MOST_SESSIONS;
 use scm_shared::{BookNaming, BookToken, Pass, SharedBook};
 use std::alloc::Global;
 use std::io::{Read, Write};
@@ -154,10 +153,7 @@ pub fn run_with_workers<
     ensures no_memory { IsErrOf result RunFault.NoMemory →
         (reader.new ≡ reader.old) × (writer.new ≡ writer.old) }
 {
-    let mut lines = LineReader::new(alloc)?;
-    let Ok(mut names) = Vec::with_capacity(alloc, MOST_SESSIONS) else {
-        return Err(RunFault::NoMemory);
-    };
+    let (mut lines, mut names) = begin_lines(alloc)?;
     let book = SharedBook::<B>::new(alloc, token);
     let mut tallies = Vec::new(alloc);
     let ran = run_beside_workers::<B, R, W, G, T>(
