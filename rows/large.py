@@ -88,18 +88,28 @@ def situations_that_outgrow_words():
     yield "a why t", f"a because {len(listed)}{''.join(listed)}"
 
 
-def eight_processes_of_a_thousand_operations():
-    """What a memory did with stores of new values and loads, reported process by process: no budget of situations settles
-    the question, and a schedule is proposed."""
-    draws, memory, reports = random.Random(2_026), [0] * 8, [[] for _ in range(8)]
-    for value in range(1, 8_001):
-        process, cell = draws.randrange(8), draws.randrange(8)
+def what_a_memory_did(processes, operations, cells, value_of):
+    """Loads and stores that a memory made in some order, reported process by process: no budget of situations settles the
+    question, and a schedule is proposed."""
+    draws, memory, reports = random.Random(2_026), [0] * cells, [[] for _ in range(processes)]
+    for number in range(1, operations + 1):
+        process, cell = draws.randrange(processes), draws.randrange(cells)
         is_store = draws.random() < 0.5
-        memory[cell] = value if is_store else memory[cell]
+        memory[cell] = value_of(draws, number) if is_store else memory[cell]
         reports[process].append((f"a do t {process} {'sw' if is_store else 'lw'} x{cell} {memory[cell]}", "a ok"))
-    yield from opened(8, 1_000_000, [f"x{cell}" for cell in range(8)])
+    yield from opened(processes, 1_000_000, [f"x{cell}" for cell in range(cells)])
     yield from (report for process in reports for report in process)
-    yield "a ask t", "a consistent 8000"
+    yield "a ask t", f"a consistent {operations}"
+
+
+def eight_processes_of_a_thousand_operations():
+    """Each store has a value of its own."""
+    return what_a_memory_did(8, 8_000, 8, lambda _, number: number)
+
+
+def three_values_in_four_thousand_operations():
+    """A read may see one of hundreds of stores: the schedule is made window by window."""
+    return what_a_memory_did(4, 4_000, 8, lambda draws, _: draws.randrange(3))
 
 
 def two_processes_by_turns():
@@ -114,7 +124,7 @@ def two_processes_by_turns():
 ROWS = [
     a_long_process, thousands_of_situations, seventy_thousand_situations, situations_that_need_more_room,
     situations_that_outgrow_words,
-    eight_processes_of_a_thousand_operations, two_processes_by_turns,
+    eight_processes_of_a_thousand_operations, three_values_in_four_thousand_operations, two_processes_by_turns,
 ]
 
 

@@ -34,6 +34,16 @@ impl Clocks {
         })
     }
 
+    /// The same clocks, of which no change can be taken back.
+    pub fn kept(self, alloc: Global) -> Clocks {
+        let Clocks { counts, .. } = self;
+        Clocks {
+            counts,
+            changes: Vec::new(alloc),
+            is_recorded: false,
+        }
+    }
+
     /// From now on changes can be taken back.
     pub fn record(&mut self) {
         self.is_recorded = true;

@@ -1,5 +1,6 @@
 //! One numbering of all operations.
-use scm_sequences::{Lengths, Op, Sequences};
+use crate::part::Part;
+use scm_sequences::Op;
 use std::alloc::Global;
 
 /// Operations under one number each: those of process 0 in order, then those of process 1, ..
@@ -12,22 +13,17 @@ pub struct Numbering {
 }
 
 impl Numbering {
-    /// Of the operations within the lengths, but for so many that each process has made.
-    pub fn new(
-        alloc: Global,
-        made: &[u32],
-        sequences: &Sequences,
-        lengths: &Lengths,
-    ) -> Option<Numbering> {
+    /// Of the operations of a part.
+    pub fn new(alloc: Global, part: &Part) -> Option<Numbering> {
         let mut numbering = Numbering {
             ops: Vec::new(alloc),
             owners: Vec::new(alloc),
             firsts: Vec::new(alloc),
             counts: Vec::new(alloc),
         };
-        for p in 0..lengths.procs() {
-            let left = *made.get(p)? as usize..lengths.get(p) as usize;
-            numbering.add(sequences.operations(p).get(left)?)?;
+        for (p, (made, end)) in part.made.iter().zip(part.ends).enumerate() {
+            let left = *made as usize..*end as usize;
+            numbering.add(part.sequences.operations(p).get(left)?)?;
         }
         Some(numbering)
     }

@@ -1,11 +1,12 @@
 //! The values that cells hold, numbered.
 use crate::numbering::Numbering;
+use crate::part::Part;
 use indexmap::IndexSet;
 use scm_sequences::Op;
 use std::alloc::Global;
 
 /// For each operation the number of the value that it found and of the one that it wrote, and for each cell that of
-/// its first contents. Each cell has values of its own.
+/// its first contents. Each cell has values of its own. Of what isn't checked it doesn't tell what was found.
 #[derive(Drop)]
 pub struct Values {
     found: Vec<Option<u32>>,
@@ -20,8 +21,8 @@ fn number_of(known: &mut IndexSet<(u32, u64)>, cell: u32, value: u64) -> Option<
 }
 
 impl Values {
-    /// Of these operations, where the cells hold this at first (`None` is an open cell).
-    pub fn new(alloc: Global, initials: &[Option<u64>], numbering: &Numbering) -> Option<Values> {
+    /// Of a part, whose operations are numbered so.
+    pub fn new(alloc: Global, part: &Part, numbering: &Numbering) -> Option<Values> {
         let mut known = IndexSet::new(alloc);
         let mut values = Values {
             found: Vec::new(alloc),
@@ -29,19 +30,21 @@ impl Values {
             firsts: Vec::new(alloc),
             count: 0,
         };
-        values.add_all(&mut known, initials, numbering)?;
+        values.add_all(&mut known, part, numbering)?;
         Some(values)
     }
 
     fn add_all(
         &mut self,
         known: &mut IndexSet<(u32, u64)>,
-        initials: &[Option<u64>],
+        part: &Part,
         numbering: &Numbering,
     ) -> Option<()> {
-        self.add_firsts(known, initials)?;
+        self.add_firsts(known, part.contents)?;
         for x in 0..numbering.len()? {
-            self.add(known, numbering.cell(x)?, numbering.op(x)?)?;
+            let (_, place) = numbering.spot(x)?;
+            let is_checked = place < part.checked;
+            self.add(known, numbering.cell(x)?, numbering.op(x)?, is_checked)?;
         }
         self.count = u32::try_from(known.len()).ok()?;
         Some(())
@@ -62,7 +65,13 @@ impl Values {
         Some(())
     }
 
-    fn add(&mut self, known: &mut IndexSet<(u32, u64)>, cell: u32, op: Op) -> Option<()> {
+    fn add(
+        &mut self,
+        known: &mut IndexSet<(u32, u64)>,
+        cell: u32,
+        op: Op,
+        is_checked: bool,
+    ) -> Option<()> {
         let (found, written) = match op {
             Op::R { value, .. } => (Some(number_of(known, cell, value)?), None),
             Op::W { value, .. } => (None, Some(number_of(known, cell, value)?)),
@@ -71,6 +80,7 @@ impl Values {
                 (Some(found), Some(number_of(known, cell, new)?))
             }
         };
+        let found = found.filter(|_| is_checked);
         self.found.push(found).ok()?;
         self.written.push(written).ok()
     }
@@ -80,7 +90,7 @@ impl Values {
         self.count
     }
 
-    /// The value that an operation found; `None` for a write.
+    /// The value that an operation found; `None` for a write, and where it isn't checked.
     pub fn found(&self, x: u32) -> Option<u32> {
         *self.found.get(x as usize)?
     }

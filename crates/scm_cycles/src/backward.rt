@@ -42,6 +42,7 @@ impl Search {
     /// From now on it is known what comes after each operation, and not only what comes before it, and what is left for each
     /// read to see; and changes can be taken back.
     pub(crate) fn look_back(&mut self) -> Option<()> {
+        self.burn(self.ops.checked_mul(self.procs)?)?;
         let mut afters = self.all_afters()?;
         afters.record();
         self.afters = Some(afters);

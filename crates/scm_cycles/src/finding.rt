@@ -2,8 +2,10 @@
 use crate::cases::Ending;
 use crate::conflict::Conflict;
 use crate::gathering::gather;
+use crate::given::Given;
 use crate::goals::Goal;
 use crate::search::Search;
+use scm_clocks::{Part, counts_of};
 use scm_orders::Derivation;
 use scm_sequences::{Lengths, Sequences};
 use std::alloc::Global;
@@ -27,8 +29,13 @@ pub fn find_cycle(
     lengths: &Lengths,
 ) -> Option<Derivation> {
     let fuel = fuel_for(lengths);
-    let goal = Goal::Refutation;
-    let mut search = Search::new(alloc, goal, initials, sequences, lengths, fuel)?;
+    let (none, whole) = (
+        vec![in alloc; 0; lengths.procs()].ok()?,
+        counts_of(alloc, lengths)?,
+    );
+    let part = Part::all(initials, sequences, none.as_slice(), whole.as_slice());
+    let given = Given::new(alloc, &part)?;
+    let mut search = Search::new(alloc, Goal::Refutation, given, fuel)?;
     let conflict = refute(&mut search)?;
     gather(alloc, &search, &conflict)
 }

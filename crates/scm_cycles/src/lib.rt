@@ -16,6 +16,7 @@ mod conflict;
 mod evidence;
 mod finding;
 mod gathering;
+mod given;
 mod goals;
 mod lines;
 mod narrowing;
@@ -38,4 +39,4 @@ mod watching;
 mod ways;
 
 pub use finding::find_cycle;
-pub use sources::find_sources;
+pub use sources::{Guess, find_sources, find_sources_under_skews};

@@ -5,6 +5,7 @@ use crate::cases::Restarts;
 use crate::choices::Choices;
 use crate::claims::Claim;
 use crate::clauses::Clauses;
+use crate::given::Given;
 use crate::goals::Goal;
 use crate::rises::Rises;
 use crate::settled::Settled;
@@ -13,7 +14,6 @@ use crate::trail::Trail;
 use crate::waiting::Waiting;
 use scm_clocks::{Clocks, Flags, Numbering, Values, Writers, Writes, is_covered};
 use scm_orders::Place;
-use scm_sequences::{Lengths, Sequences};
 use std::alloc::Global;
 
 /// How many changes can be taken back at most, for each number of the clocks. A search that has more gives up.
@@ -32,6 +32,8 @@ pub(crate) struct Search {
     pub(crate) values: Values,
     pub(crate) writes: Writes,
     pub(crate) writers: Writers,
+    /// How many operations each process has in the whole trace.
+    pub(crate) whole: Vec<u32>,
     pub(crate) steps: Steps,
     pub(crate) procs: u32,
     pub(crate) ops: u32,
@@ -60,34 +62,18 @@ pub(crate) struct Search {
 }
 
 impl Search {
-    pub(crate) fn new(
-        alloc: Global,
-        goal: Goal,
-        initials: &[Option<u64>],
-        sequences: &Sequences,
-        lengths: &Lengths,
-        fuel: u64,
-    ) -> Option<Search> {
-        let none_made = vec![in alloc; 0; lengths.procs()].ok()?;
-        let numbering = Numbering::new(alloc, none_made.as_slice(), sequences, lengths)?;
-        let values = Values::new(alloc, initials, &numbering)?;
-        Search::over(alloc, goal, numbering, values, fuel)
-    }
-
-    // Over these operations and their values.
-    fn over(
-        alloc: Global,
-        goal: Goal,
-        numbering: Numbering,
-        values: Values,
-        fuel: u64,
-    ) -> Option<Search> {
+    pub(crate) fn new(alloc: Global, goal: Goal, given: Given, fuel: u64) -> Option<Search> {
+        let Given {
+            numbering,
+            values,
+            writes,
+            writers,
+            whole,
+        } = given;
         let (procs, ops) = (numbering.procs()?, numbering.len()?);
         let numbers = u64::from(ops).checked_mul(u64::from(procs))?;
         let fuel = fuel.checked_sub(numbers)?;
         let cells = u32::try_from(values.firsts().len()).ok()?;
-        let writes = Writes::new(alloc, cells, &numbering, &values)?;
-        let writers = Writers::new(alloc, &numbering, &values)?;
         let clocks = Clocks::new(alloc, &numbering)?;
         Some(Search {
             alloc,
@@ -96,6 +82,7 @@ impl Search {
             values,
             writes,
             writers,
+            whole,
             steps: Steps::new(alloc, ops)?,
             procs,
             ops,
@@ -115,6 +102,25 @@ impl Search {
             fuel,
             most_changes: numbers.checked_mul(CHANGES_OF_NUMBER)?,
         })
+    }
+
+    /// What it began with.
+    pub(crate) fn into_given(self) -> Given {
+        let Search {
+            numbering,
+            values,
+            writes,
+            writers,
+            whole,
+            ..
+        } = self;
+        Given {
+            numbering,
+            values,
+            writes,
+            writers,
+            whole,
+        }
     }
 
     /// Where an operation stands.
@@ -242,7 +248,12 @@ impl Search {
             Some(candidates) => candidates.changes(),
             None => 0,
         };
+        let lowered = match &self.afters {
+            Some(afters) => afters.changes(),
+            None => 0,
+        };
         let changes = self.clocks.changes().checked_add(narrowed)?;
+        let changes = changes.checked_add(lowered)?;
         self.most_changes.checked_sub(changes as u64)?;
         Some(())
     }

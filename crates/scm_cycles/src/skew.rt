@@ -29,9 +29,12 @@ impl Search {
     // At least so many operations of each process come before `x`.
     fn suppose_at(&mut self, x: u32, tenths: u64, id: u32) -> Option<()> {
         let (owner, place) = self.numbering.spot(x)?;
-        let length = self.numbering.count(owner)?;
+        let length = *self.whole.get(owner as usize)?;
         for process in 0..self.procs {
-            let count = least_count(place, length, self.numbering.count(process)?, tenths)?;
+            let other = *self.whole.get(process as usize)?;
+            let count = least_count(place, length, other, tenths)?.min(
+                self.numbering.count(process)?,
+            );
             if process != owner && count > self.before(x, process)? {
                 self.clocks.set(x, process, count)?;
                 self.rises.add((owner, place), process, count, id)?;

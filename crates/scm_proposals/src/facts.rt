@@ -1,8 +1,6 @@
 //! What is known of a trace before the walk.
-use crate::beginning::Beginning;
 use crate::sources::Sources;
-use scm_clocks::{Numbering, Values, Writers, Writes};
-use scm_sequences::{Lengths, Sequences};
+use scm_clocks::{Numbering, Part, Values, Writers, Writes};
 use std::alloc::Global;
 
 #[derive(Drop)]
@@ -18,18 +16,12 @@ pub(crate) struct Facts {
 }
 
 impl Facts {
-    /// Of what is left after a beginning.
-    pub(crate) fn new(
-        alloc: Global,
-        beginning: &Beginning,
-        sequences: &Sequences,
-        lengths: &Lengths,
-    ) -> Option<Facts> {
-        let numbering = Numbering::new(alloc, &beginning.counts, sequences, lengths)?;
+    pub(crate) fn new(alloc: Global, part: &Part) -> Option<Facts> {
+        let numbering = Numbering::new(alloc, part)?;
         let procs = numbering.procs()?;
         let ops = numbering.len()?;
-        let cells = u32::try_from(beginning.contents.len()).ok()?;
-        let mut values = Values::new(alloc, &beginning.contents, &numbering)?;
+        let cells = u32::try_from(part.contents.len()).ok()?;
+        let mut values = Values::new(alloc, part, &numbering)?;
         let writes = Writes::new(alloc, cells, &numbering, &values)?;
         let writers = Writers::new(alloc, &numbering, &values)?;
         let sources = Sources::new(alloc, &numbering, &mut values)?;

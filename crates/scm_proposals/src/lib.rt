@@ -15,6 +15,7 @@ mod rank;
 mod saturation;
 mod sources;
 mod walk;
+mod windows;
 
 pub use ending::is_near_end;
 pub use proposal::propose;

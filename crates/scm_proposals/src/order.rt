@@ -23,8 +23,14 @@ pub(crate) struct Order {
 impl Order {
     /// The order of the processes, with all operations flagged, in turn for all processes.
     pub(crate) fn new(alloc: Global, facts: Facts, fuel: u64) -> Option<Order> {
+        let clocks = Clocks::new(alloc, &facts.numbering)?;
+        Order::over(alloc, facts, clocks, fuel)
+    }
+
+    /// The order that these clocks tell, with all operations flagged.
+    pub(crate) fn over(alloc: Global, facts: Facts, clocks: Clocks, fuel: u64) -> Option<Order> {
         let mut order = Order {
-            clocks: Clocks::new(alloc, &facts.numbering)?,
+            clocks,
             counts: Numbers::zeros(alloc, facts.procs)?,
             flags: Flags::new(alloc, facts.ops)?,
             window: u32::MAX,
@@ -120,7 +126,7 @@ impl Order {
 
     // The place of the first operation of a process within the window that comes after the one at a place of `owner`, or
     // the end of the window.
-    pub(crate) fn first_after(&self, process: u32, owner: u32, place: u32) -> Option<u32> {
+    fn first_after(&self, process: u32, owner: u32, place: u32) -> Option<u32> {
         let mut low = self.counts.get(process)?;
         let mut high = low
             .saturating_add(self.window)

@@ -4,7 +4,8 @@ use crate::facts::Facts;
 use crate::fuel::fuel_of_search;
 use crate::order::Order;
 use crate::walk::Walk;
-use scm_cycles::find_sources;
+use scm_clocks::{Part, counts_of};
+use scm_cycles::{Guess, find_sources};
 use scm_sequences::{Lengths, Sequences};
 use std::alloc::Global;
 
@@ -33,11 +34,13 @@ const GROWTH: usize = 4;
 
 /// A trace that a schedule is looked for.
 #[derive(Drop)]
-struct Proposer<'a> {
-    alloc: Global,
-    initials: &'a [Option<u64>],
-    sequences: &'a Sequences,
-    lengths: &'a Lengths,
+pub(crate) struct Proposer<'a> {
+    pub(crate) alloc: Global,
+    pub(crate) initials: &'a [Option<u64>],
+    pub(crate) sequences: &'a Sequences,
+    pub(crate) lengths: &'a Lengths,
+    /// The lengths as a list.
+    pub(crate) counts: &'a [u32],
     earlier: &'a [u8],
     limit: usize,
     room: usize,
@@ -59,11 +62,13 @@ pub fn propose(
     limit: usize,
     room: usize,
 ) -> Option<Vec<u8>> {
+    let counts = counts_of(alloc, lengths)?;
     let proposer = Proposer {
         alloc,
         initials,
         sequences,
         lengths,
+        counts: counts.as_slice(),
         earlier,
         limit,
         room,
@@ -101,25 +106,48 @@ impl Proposer<'_> {
         self.schedule(kept, &walk)
     }
 
-    /// A schedule that is made from nothing: by a walk, or else by one in which each read has the source that a search chose.
+    /// A schedule that is made from nothing: by a walk, or else window by window, or else by a walk in which each read has the
+    /// source that a search chose.
     fn complete_from_nothing(&self) -> Option<Vec<u8>> {
         let mut walk = self.walk(0)?;
         if walk.make_all().is_some() {
             return self.schedule(0, &walk);
         }
-        let fuel = fuel_of_search(self.lengths, self.room);
-        let sources = find_sources(
-            self.alloc,
-            self.initials,
-            self.sequences,
-            self.lengths,
-            fuel,
-        )?;
-        let mut facts = self.facts(0)?;
-        facts.take_over(sources.as_slice())?;
-        let mut walk = Walk::new(self.alloc, self.saturated(facts)?, self.patience())?;
+        let mut fuel = fuel_of_search(self.lengths, self.room);
+        if let Some(schedule) = self.complete_by_windows(&mut fuel) {
+            return Some(schedule);
+        }
+        let none = vec![in self.alloc; 0; self.counts.len()].ok()?;
+        let part = Part::all(self.initials, self.sequences, none.as_slice(), self.counts);
+        let Guess { sources, .. } = find_sources(self.alloc, &part, &mut fuel)?;
+        let facts = self.facts_by(&part, sources.as_slice())?;
+        let fuel = self.fuel(&facts);
+        let order = Order::new(self.alloc, facts, fuel)?;
+        self.schedule(0, &self.walk_through(order)?)
+    }
+
+    /// A schedule of a part in which each read has the source that was guessed, and that keeps the guessed orders.
+    pub(crate) fn schedule_by(&self, part: &Part, guess: Guess) -> Option<Vec<u8>> {
+        let Guess { sources, clocks } = guess;
+        let facts = self.facts_by(part, sources.as_slice())?;
+        let fuel = self.fuel(&facts);
+        let order = Order::over(self.alloc, facts, clocks, fuel)?;
+        self.schedule(0, &self.walk_through(order)?)
+    }
+
+    // What is known of a part in which reads have these sources.
+    fn facts_by(&self, part: &Part, sources: &[Option<u32>]) -> Option<Facts> {
+        let mut facts = Facts::new(self.alloc, part)?;
+        facts.take_over(sources)?;
+        Some(facts)
+    }
+
+    fn walk_through(&self, order: Order) -> Option<Walk> {
+        let mut order = order;
+        order.spread()?;
+        let mut walk = Walk::new(self.alloc, order, self.patience())?;
         walk.make_all()?;
-        self.schedule(0, &walk)
+        Some(walk)
     }
 
     /// So many places of the earlier schedule, and then the walk.
@@ -146,15 +174,20 @@ impl Proposer<'_> {
     /// What is known after so many places.
     fn facts(&self, kept: usize) -> Option<Facts> {
         let beginning = self.beginning(kept)?;
-        Facts::new(self.alloc, &beginning, self.sequences, self.lengths)
+        let part = Part {
+            contents: beginning.contents.as_slice(),
+            sequences: self.sequences,
+            made: beginning.counts.as_slice(),
+            ends: self.counts,
+            checked: u32::MAX,
+            whole: self.counts,
+        };
+        Facts::new(self.alloc, &part)
     }
 
     /// What comes before what after so many places.
     fn order(&self, kept: usize) -> Option<Order> {
-        self.saturated(self.facts(kept)?)
-    }
-
-    fn saturated(&self, facts: Facts) -> Option<Order> {
+        let facts = self.facts(kept)?;
         let fuel = self.fuel(&facts);
         let mut order = Order::new(self.alloc, facts, fuel)?;
         order.spread()?;

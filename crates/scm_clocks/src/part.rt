@@ -1,0 +1,53 @@
+//! A part of a trace.
+use scm_sequences::{Lengths, Sequences};
+use std::alloc::Global;
+
+/// The operations of each process from so many that it has made up to an end, where the cells hold this (`None` is an open
+/// cell). Of each process so many of them are checked: what later ones found counts for nothing.
+#[derive(Clone, Copy)]
+pub struct Part<'a> {
+    pub contents: &'a [Option<u64>],
+    pub sequences: &'a Sequences,
+    pub made: &'a [u32],
+    pub ends: &'a [u32],
+    pub checked: u32,
+    /// How many operations each process has in the whole trace.
+    pub whole: &'a [u32],
+}
+
+impl<'a> Part<'a> {
+    /// All of a trace, where `none` has a zero for each process.
+    pub fn all(
+        contents: &'a [Option<u64>],
+        sequences: &'a Sequences,
+        none: &'a [u32],
+        whole: &'a [u32],
+    ) -> Part<'a> {
+        Part {
+            contents,
+            sequences,
+            made: none,
+            ends: whole,
+            checked: u32::MAX,
+            whole,
+        }
+    }
+
+    /// How many operations it has, multiplied by how many processes.
+    pub fn size(&self) -> u64 {
+        let mut ops: u64 = 0;
+        for (end, made) in self.ends.iter().zip(self.made) {
+            ops = ops.saturating_add(u64::from(end.saturating_sub(*made)));
+        }
+        ops.saturating_mul(self.ends.len() as u64)
+    }
+}
+
+/// The counts of all processes.
+pub fn counts_of(alloc: Global, lengths: &Lengths) -> Option<Vec<u32>> {
+    let mut counts = Vec::new(alloc);
+    for p in 0..lengths.procs() {
+        counts.push(lengths.get(p)).ok()?;
+    }
+    Some(counts)
+}

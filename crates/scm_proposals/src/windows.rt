@@ -1,0 +1,151 @@
+//! A schedule that is made window by window: of a long trace only the next operations of each process are looked at, and of
+//! their schedule the beginning is kept.
+use crate::beginning::Beginning;
+use crate::proposal::Proposer;
+use scm_clocks::Part;
+use scm_cycles::find_sources_under_skews;
+
+/// How many operations of each process a window has, at least and at most: one without a schedule is followed by one of twice
+/// as many that begins earlier.
+const WIDTH: u32 = 96;
+
+const MOST_WIDTH: u32 = 4 * WIDTH;
+
+/// Of how many sixteenths of a window it is checked what they found, and how many are kept, in the mean of all processes. What
+/// lies between is looked ahead.
+const CHECKED: u32 = 10;
+
+const KEPT: u32 = 7;
+
+const WHOLE: u32 = 16;
+
+/// The fuel for each operation of a window, at most.
+const FUEL: u64 = 2_000;
+
+/// What a unit of fuel takes of the time in a window, whose clocks are near at hand, and in a search of the whole trace.
+const PRICE: u64 = 3;
+
+const PRICE_OF_WHOLE: u64 = 4;
+
+/// For how many windows a trace is long enough, and for how many processes they cost less than the trace as a whole.
+const LEAST_WINDOWS: u32 = 3;
+
+const MOST_PROCESSES: usize = 8;
+
+/// What was made so far, and how wide the next window is.
+#[derive(Drop)]
+struct Progress {
+    beginning: Beginning,
+    schedule: Vec<u8>,
+    width: u32,
+}
+
+impl Progress {
+    // Where the next window ends.
+    fn ends(&self, proposer: &Proposer) -> Option<Vec<u32>> {
+        let mut ends = Vec::new(proposer.alloc);
+        for (made, count) in self.beginning.counts.iter().zip(proposer.counts) {
+            let end = made.saturating_add(self.width).min(*count);
+            ends.push(end).ok()?;
+        }
+        Some(ends)
+    }
+
+    // How many places of the schedule of a window are kept.
+    fn kept(&self) -> usize {
+        let places = self.width.saturating_mul(KEPT) / WHOLE;
+        (places as usize).saturating_mul(self.beginning.counts.len())
+    }
+
+    // Keeps these places as far as they are legal. Whether there are any.
+    fn keep(&mut self, proposer: &Proposer, places: &[u8]) -> Option<bool> {
+        let before = self.beginning.len;
+        self.beginning
+            .follow(proposer.sequences, proposer.lengths, places);
+        let made = self.beginning.len.saturating_sub(before);
+        for place in places.get(..made)? {
+            self.schedule.push(*place).ok()?;
+        }
+        Some(made > 0)
+    }
+}
+
+impl Proposer<'_> {
+    /// A schedule of a long trace of few processes, none of which gets far ahead of the others.
+    pub(crate) fn complete_by_windows(&self, fuel: &mut u64) -> Option<Vec<u8>> {
+        let longest = self.counts.iter().copied().max()?;
+        if self.counts.len() > MOST_PROCESSES || longest < LEAST_WINDOWS.saturating_mul(WIDTH) {
+            return None;
+        }
+        let mut progress = Progress {
+            beginning: Beginning::new(self.alloc, self.initials, self.counts.len())?,
+            schedule: Vec::new(self.alloc),
+            width: WIDTH,
+        };
+        for _ in 0..*fuel {
+            if progress.beginning.left(self.lengths) == 0 {
+                return Some(progress.schedule);
+            }
+            if self.add_window(&mut progress, fuel)? {
+                progress.width = (progress.width / 2).max(WIDTH);
+            } else {
+                self.go_back(&mut progress, fuel)?;
+            }
+        }
+        None
+    }
+
+    // Adds the schedule of the next window, as far as it is kept. Whether there is one.
+    fn add_window(&self, progress: &mut Progress, fuel: &mut u64) -> Option<bool> {
+        let ends = progress.ends(self)?;
+        let is_last = ends.as_slice() == self.counts;
+        let part = Part {
+            contents: progress.beginning.contents.as_slice(),
+            sequences: self.sequences,
+            made: progress.beginning.counts.as_slice(),
+            ends: ends.as_slice(),
+            checked: if is_last {
+                u32::MAX
+            } else {
+                progress.width.saturating_mul(CHECKED) / WHOLE
+            },
+            whole: self.counts,
+        };
+        let Some(places) = self.complete_part(&part, fuel) else {
+            return Some(false);
+        };
+        let kept = if is_last {
+            places.len()
+        } else {
+            progress.kept().min(places.len())
+        };
+        progress.keep(self, places.get(..kept)?)
+    }
+
+    // A schedule of a window, in which what isn't checked finds anything.
+    fn complete_part(&self, part: &Part, fuel: &mut u64) -> Option<Vec<u8>> {
+        let ops = part.size().checked_div(self.counts.len() as u64)?;
+        let most = ops.saturating_mul(FUEL).min(*fuel);
+        let mut left = most;
+        let guess = find_sources_under_skews(self.alloc, part, &mut left);
+        let burnt = most.saturating_sub(left).saturating_mul(PRICE) / PRICE_OF_WHOLE;
+        *fuel = fuel.checked_sub(burnt.max(1))?;
+        self.schedule_by(part, guess?)
+    }
+
+    // Takes back as many places as are kept of a window, for one that is twice as wide.
+    fn go_back(&self, progress: &mut Progress, fuel: &mut u64) -> Option<()> {
+        if progress.width >= MOST_WIDTH {
+            return None;
+        }
+        let kept = progress.schedule.len().saturating_sub(progress.kept());
+        *fuel = fuel.checked_sub(kept as u64)?;
+        progress.schedule.truncate(kept);
+        progress.beginning = Beginning::new(self.alloc, self.initials, self.counts.len())?;
+        progress
+            .beginning
+            .follow(self.sequences, self.lengths, progress.schedule.as_slice());
+        progress.width = progress.width.saturating_mul(2);
+        Some(())
+    }
+}
