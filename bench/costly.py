@@ -59,6 +59,9 @@ KINDS = {
     "8 x 300, 2 cells, 6 values, 9 of 10 swap": lambda: few_values(8, 300, 2, 6, amos=0.9),
     "16 x 200, 64 cells, 2 values": lambda: few_values(16, 200, 64, 2),
     "32 x 300, 2 cells, 6 values": lambda: few_values(32, 300, 2, 6),
+    "32 x 1000, 8 cells, 3 values": lambda: few_values(32, 1_000, 8, 3),
+    "32 x 2000, 8 cells, 50 values": lambda: few_values(32, 2_000, 8, 50),
+    "32 x 3000, 64 cells, 200 values": lambda: few_values(32, 3_000, 64, 200),
     "3,000 sources excluded": lambda: excluded(3_000),
     "10,000 sources overwritten": lambda: overwritten(10_000),
 }

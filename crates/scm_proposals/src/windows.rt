@@ -7,7 +7,7 @@ use scm_cycles::find_sources_under_skews;
 
 /// How many operations of each process a window has, at least and at most: one without a schedule is followed by one of twice
 /// as many that begins earlier.
-const WIDTH: u32 = 96;
+const WIDTH: u32 = 112;
 
 const MOST_WIDTH: u32 = 4 * WIDTH;
 
