@@ -50,6 +50,13 @@ def overwritten(pairs, seekers=60):
     return list(traces.script(memory, 5))
 
 
+def changed_late(procs, length, cells, values):
+    """One of the last 60 loads of each process reads something else."""
+    rng = random.Random(1)
+    memory, width = traces.of_values(rng, procs, length, cells, values, "fair")
+    return list(traces.script(failing.changed(rng, memory, 1, values, length - 60), width))
+
+
 KINDS = {
     "4 x 500, 4 values, asked 20 times more": lambda: asked_again(few_values(4, 500, 8, 4), 4, 20),
     "4 x 2000, 200 values, budget 1000, the same": lambda: asked_again(few_values(4, 2_000, 8, 200, 1_000), 4, 20),
@@ -62,6 +69,8 @@ KINDS = {
     "32 x 1000, 8 cells, 3 values": lambda: few_values(32, 1_000, 8, 3),
     "32 x 2000, 8 cells, 50 values": lambda: few_values(32, 2_000, 8, 50),
     "32 x 3000, 64 cells, 200 values": lambda: few_values(32, 3_000, 64, 200),
+    "3 x 100000, 8 cells, 8 values, changed late": lambda: changed_late(3, 100_000, 8, 8),
+    "2 x 60000, 8 cells, 8 values, changed late": lambda: changed_late(2, 60_000, 8, 8),
     "3,000 sources excluded": lambda: excluded(3_000),
     "10,000 sources overwritten": lambda: overwritten(10_000),
 }
