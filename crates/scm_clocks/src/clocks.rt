@@ -34,16 +34,6 @@ impl Clocks {
         })
     }
 
-    /// The same clocks, of which no change can be taken back.
-    pub fn kept(self, alloc: Global) -> Clocks {
-        let Clocks { counts, .. } = self;
-        Clocks {
-            counts,
-            changes: Vec::new(alloc),
-            is_recorded: false,
-        }
-    }
-
     /// From now on changes can be taken back.
     pub fn record(&mut self) {
         self.is_recorded = true;
@@ -85,4 +75,13 @@ impl Clocks {
         }
         Some(())
     }
+}
+
+/// Whether each number is at most the one at its place among `others`.
+pub fn is_covered(numbers: &[u32], others: &[u32]) -> bool {
+    let mut is_more = false;
+    for (number, other) in numbers.iter().zip(others) {
+        is_more |= number > other;
+    }
+    !is_more
 }

@@ -5,19 +5,19 @@
 
 mod clocks;
 mod flags;
+mod given;
 mod grid;
 mod numbering;
-mod numbers;
 mod part;
 mod values;
 mod writers;
 mod writes;
 
-pub use clocks::Clocks;
+pub use clocks::{Clocks, is_covered};
 pub use flags::Flags;
+pub use given::Given;
 pub use grid::Grid;
 pub use numbering::Numbering;
-pub use numbers::{Numbers, is_covered};
 pub use part::{Part, counts_of};
 pub use values::Values;
 pub use writers::Writers;

@@ -14,7 +14,7 @@ pub struct Numbering {
 
 impl Numbering {
     /// Of the operations of a part.
-    pub fn new(alloc: Global, part: &Part) -> Option<Numbering> {
+    pub(crate) fn new(alloc: Global, part: &Part) -> Option<Numbering> {
         let mut numbering = Numbering {
             ops: Vec::new(alloc),
             owners: Vec::new(alloc),
@@ -56,7 +56,7 @@ impl Numbering {
     }
 
     /// An operation, by its number.
-    pub fn op(&self, x: u32) -> Option<Op> {
+    pub(crate) fn op(&self, x: u32) -> Option<Op> {
         self.ops.get(x as usize).copied()
     }
 

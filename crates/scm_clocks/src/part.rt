@@ -15,24 +15,7 @@ pub struct Part<'a> {
     pub whole: &'a [u32],
 }
 
-impl<'a> Part<'a> {
-    /// All of a trace, where `none` has a zero for each process.
-    pub fn all(
-        contents: &'a [Option<u64>],
-        sequences: &'a Sequences,
-        none: &'a [u32],
-        whole: &'a [u32],
-    ) -> Part<'a> {
-        Part {
-            contents,
-            sequences,
-            made: none,
-            ends: whole,
-            checked: u32::MAX,
-            whole,
-        }
-    }
-
+impl Part<'_> {
     /// How many operations it has, multiplied by how many processes.
     pub fn size(&self) -> u64 {
         let mut ops: u64 = 0;

@@ -22,7 +22,7 @@ fn number_of(known: &mut IndexSet<(u32, u64)>, cell: u32, value: u64) -> Option<
 
 impl Values {
     /// Of a part, whose operations are numbered so.
-    pub fn new(alloc: Global, part: &Part, numbering: &Numbering) -> Option<Values> {
+    pub(crate) fn new(alloc: Global, part: &Part, numbering: &Numbering) -> Option<Values> {
         let mut known = IndexSet::new(alloc);
         let mut values = Values {
             found: Vec::new(alloc),

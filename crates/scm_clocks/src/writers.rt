@@ -12,7 +12,7 @@ pub struct Writers {
 
 impl Writers {
     /// Of these operations.
-    pub fn new(alloc: Global, numbering: &Numbering, values: &Values) -> Option<Writers> {
+    pub(crate) fn new(alloc: Global, numbering: &Numbering, values: &Values) -> Option<Writers> {
         let mut writers = Writers {
             lists: Vec::new(alloc),
         };

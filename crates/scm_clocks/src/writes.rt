@@ -41,7 +41,7 @@ pub(crate) fn count_below(numbers: &[u32], bound: u32) -> usize {
 
 impl Writes {
     /// Of these operations and so many cells.
-    pub fn new(
+    pub(crate) fn new(
         alloc: Global,
         cells: u32,
         numbering: &Numbering,
@@ -79,8 +79,8 @@ impl Writes {
         Some(list as usize)
     }
 
-    /// The places of the writes of a process to a cell.
-    pub fn of(&self, process: u32, cell: u32) -> Option<&[u32]> {
+    // The places of the writes of a process to a cell.
+    fn of(&self, process: u32, cell: u32) -> Option<&[u32]> {
         Some(self.lists.get(self.list(process, cell)?)?.as_slice())
     }
 

@@ -4,6 +4,9 @@ use crate::search::Search;
 use scm_clocks::{Clocks, Numbering};
 use std::alloc::Global;
 
+/// How much is burnt for each number of the clocks backward, and for what is left there.
+const BURNT_OF_NUMBER: u32 = 2;
+
 // By the order of each process alone.
 fn afters_of(alloc: Global, numbering: &Numbering) -> Option<Clocks> {
     let mut afters = Clocks::new(alloc, numbering)?;
@@ -19,30 +22,33 @@ fn afters_of(alloc: Global, numbering: &Numbering) -> Option<Clocks> {
 }
 
 /// The first so many operations of a process come before this place of its owner: the last of them of which that is known
-/// tells it of those before.
+/// tells it of those before. To how many it was news.
 pub(crate) fn lower(
     afters: &mut Clocks,
     numbering: &Numbering,
     spot: (u32, u32),
     process: u32,
     count: u32,
-) -> Option<()> {
+) -> Option<u32> {
     let (owner, place) = spot;
+    let mut lowered: u32 = 0;
     for back in 1..=count {
         let x = numbering.number(process, count.checked_sub(back)?)?;
         if afters.get(x, owner)? <= place {
             break;
         }
         afters.set(x, owner, place)?;
+        lowered = back;
     }
-    Some(())
+    Some(lowered)
 }
 
 impl Search {
     /// From now on it is known what comes after each operation, and not only what comes before it, and what is left for each
     /// read to see; and changes can be taken back.
     pub(crate) fn look_back(&mut self) -> Option<()> {
-        self.burn(self.ops.checked_mul(self.procs)?)?;
+        let numbers = self.ops.checked_mul(self.procs)?;
+        self.burn(numbers.checked_mul(BURNT_OF_NUMBER)?)?;
         let mut afters = self.all_afters()?;
         afters.record();
         self.afters = Some(afters);

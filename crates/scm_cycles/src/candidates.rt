@@ -1,6 +1,6 @@
 //! What is left for reads to see.
 use crate::users::Users;
-use scm_clocks::{Numbering, Values, Writers};
+use scm_clocks::{Grid, Numbering, Values, Writers};
 use std::alloc::Global;
 
 /// For how many operations and processes, multiplied, there are bounds at most: cases of larger traces aren't tried.
@@ -81,8 +81,12 @@ impl Candidates {
             firsts: Users::new(alloc, ops)?,
             lasts: Users::new(alloc, ops)?,
         };
+        let starts = starts(alloc, numbering, values, writers)?;
         for x in 0..ops {
-            candidates.add(numbering, writers, x, values.found(x))?;
+            match values.found(x) {
+                Some(value) => candidates.add(numbering, writers, &starts, x, value)?,
+                None => candidates.add_nothing()?,
+            }
         }
         Some(candidates)
     }
@@ -91,16 +95,29 @@ impl Candidates {
         &mut self,
         numbering: &Numbering,
         writers: &Writers,
+        starts: &Grid,
         x: u32,
-        found: Option<u32>,
+        value: u32,
     ) -> Option<()> {
+        let (owner, _) = numbering.spot(x)?;
+        let list = writers.of(value)?;
         for process in 0..self.procs {
-            let bounds = match found {
-                Some(value) => first_bounds(numbering, writers, x, value, process)?,
-                None => Bounds::NOTHING,
+            let low = starts.get(process, value)?;
+            let high = if process == owner {
+                u32::try_from(writers.count(value, x)?).ok()?
+            } else {
+                starts.get(process.checked_add(1)?, value)?
             };
+            let bounds = Bounds::new(list, low, high)?;
             self.bounds.push(bounds).ok()?;
             self.use_ends(x, bounds)?;
+        }
+        Some(())
+    }
+
+    fn add_nothing(&mut self) -> Option<()> {
+        for _ in 0..self.procs {
+            self.bounds.push(Bounds::NOTHING).ok()?;
         }
         Some(())
     }
@@ -172,34 +189,46 @@ impl Candidates {
         self.changes.len()
     }
 
-    /// Takes back all changes but the first so many.
-    pub(crate) fn take_back(&mut self, kept: usize) -> Option<()> {
+    /// Takes back all changes but the first so many. How many reads were looked at for that.
+    pub(crate) fn take_back(&mut self, kept: usize) -> Option<usize> {
+        let mut steps: usize = 0;
         for _ in kept..self.changes.len() {
             let change = self.changes.pop()?;
-            self.exchange(change.at, change.bounds)?;
+            let more = self.exchange(change.at, change.bounds)?;
+            steps = steps.saturating_add(more);
         }
-        Some(())
+        Some(steps)
     }
 }
 
-fn first_bounds(
+// For each process and each value how many of its writes are of earlier processes; and last, how many there are.
+fn starts(
+    alloc: Global,
     numbering: &Numbering,
+    values: &Values,
     writers: &Writers,
-    read: u32,
-    value: u32,
-    process: u32,
-) -> Option<Bounds> {
-    let Some(start) = numbering.number(process, 0) else {
-        return Some(Bounds::NOTHING);
-    };
-    let (owner, at) = numbering.spot(read)?;
-    let count = if owner == process {
-        at
-    } else {
-        numbering.count(process)?
-    };
-    let end = start.checked_add(count)?;
-    let low = u32::try_from(writers.count(value, start)?).ok()?;
-    let high = u32::try_from(writers.count(value, end)?).ok()?;
-    Bounds::new(writers.of(value)?, low, high)
+) -> Option<Grid> {
+    let procs = numbering.procs()?;
+    let mut starts = Grid::zeros(alloc, procs.checked_add(1)?, values.count())?;
+    let mut first: u32 = 0;
+    for process in 0..procs {
+        first = first.checked_add(numbering.count(process)?)?;
+        count_writes(
+            &mut starts,
+            writers,
+            values.count(),
+            process.checked_add(1)?,
+            first,
+        )?;
+    }
+    Some(starts)
+}
+
+// Fills a row with how many writes of each value have a number below `x`.
+fn count_writes(starts: &mut Grid, writers: &Writers, values: u32, row: u32, x: u32) -> Option<()> {
+    for value in 0..values {
+        let count = u32::try_from(writers.count(value, x)?).ok()?;
+        starts.set(row, value, count)?;
+    }
+    Some(())
 }

@@ -2,10 +2,9 @@
 use crate::cases::Ending;
 use crate::conflict::Conflict;
 use crate::gathering::gather;
-use crate::given::Given;
 use crate::goals::Goal;
 use crate::search::Search;
-use scm_clocks::{Part, counts_of};
+use scm_clocks::{Given, Part, counts_of};
 use scm_orders::Derivation;
 use scm_sequences::{Lengths, Sequences};
 use std::alloc::Global;
@@ -33,7 +32,14 @@ pub fn find_cycle(
         vec![in alloc; 0; lengths.procs()].ok()?,
         counts_of(alloc, lengths)?,
     );
-    let part = Part::all(initials, sequences, none.as_slice(), whole.as_slice());
+    let part = Part {
+        contents: initials,
+        sequences,
+        made: none.as_slice(),
+        ends: whole.as_slice(),
+        checked: u32::MAX,
+        whole: whole.as_slice(),
+    };
     let given = Given::new(alloc, &part)?;
     let mut search = Search::new(alloc, Goal::Refutation, given, fuel)?;
     let conflict = refute(&mut search)?;

@@ -16,7 +16,6 @@ mod conflict;
 mod evidence;
 mod finding;
 mod gathering;
-mod given;
 mod goals;
 mod lines;
 mod narrowing;
@@ -39,4 +38,4 @@ mod watching;
 mod ways;
 
 pub use finding::find_cycle;
-pub use sources::{Guess, find_sources, find_sources_under_skews};
+pub use sources::{Guess, SKEWS, find_sources};

@@ -5,14 +5,13 @@ use crate::cases::Restarts;
 use crate::choices::Choices;
 use crate::claims::Claim;
 use crate::clauses::Clauses;
-use crate::given::Given;
 use crate::goals::Goal;
 use crate::rises::Rises;
 use crate::settled::Settled;
 use crate::steps::{Need, Steps, Why};
 use crate::trail::Trail;
 use crate::waiting::Waiting;
-use scm_clocks::{Clocks, Flags, Numbering, Values, Writers, Writes, is_covered};
+use scm_clocks::{Clocks, Flags, Given, Numbering, Values, Writers, Writes, is_covered};
 use scm_orders::Place;
 use std::alloc::Global;
 
@@ -104,23 +103,25 @@ impl Search {
         })
     }
 
-    /// What it began with.
-    pub(crate) fn into_given(self) -> Given {
+    /// What it began with, and the clocks.
+    pub(crate) fn into_parts(self) -> (Given, Clocks) {
         let Search {
             numbering,
             values,
             writes,
             writers,
             whole,
+            clocks,
             ..
         } = self;
-        Given {
+        let given = Given {
             numbering,
             values,
             writes,
             writers,
             whole,
-        }
+        };
+        (given, clocks)
     }
 
     /// Where an operation stands.
@@ -222,15 +223,13 @@ impl Search {
             return Some(id);
         }
         self.touch_before(from, to)?;
-        if self.absorb(to, from, Some(id))? {
-            self.flags.add(to)?;
-            self.spread()?;
-        }
+        self.absorb(to, from, id)?;
+        self.spread()?;
         Some(id)
     }
 
-    /// Brings what is new of the clocks that are flagged to those after them.
-    pub(crate) fn spread(&mut self) -> Option<()> {
+    // Brings what is new of the clocks that are flagged to those after them.
+    fn spread(&mut self) -> Option<()> {
         for _ in 0..self.fuel {
             let Some(x) = self.flags.next() else {
                 return Some(());
@@ -259,10 +258,6 @@ impl Search {
     }
 
     fn spread_from(&mut self, x: u32) -> Option<()> {
-        let (process, at) = self.numbering.spot(x)?;
-        if let Some(next) = self.numbering.number(process, at.checked_add(1)?) {
-            self.follow(next, x, None)?;
-        }
         let mut leaving = self.steps.newest(x);
         for _ in 0..self.steps.len()? {
             let Some(id) = leaving else {
@@ -270,27 +265,18 @@ impl Search {
             };
             let to = self.steps.get(id)?.claim.to;
             self.burn(1)?;
-            self.follow(to, x, leaving)?;
+            self.absorb(to, x, id)?;
             leaving = self.steps.older(id);
         }
         Some(())
     }
 
-    fn follow(&mut self, y: u32, x: u32, by: Option<u32>) -> Option<()> {
-        if self.absorb(y, x, by)? {
-            self.flags.add(y)?;
-        }
-        Some(())
-    }
-
-    // Puts `y` after `x` and all that comes before it, by this step, or by the order of their process. Whether something of
-    // that is new.
-    fn absorb(&mut self, y: u32, x: u32, by: Option<u32>) -> Option<bool> {
-        let (spot, (owner, at)) = (self.numbering.spot(y)?, self.numbering.spot(x)?);
+    // Puts `y` after `x` and all that comes before it, by this step.
+    fn absorb(&mut self, y: u32, x: u32, id: u32) -> Option<()> {
+        let (owner, at) = self.numbering.spot(x)?;
         if self.before(y, owner)? > at && is_covered(self.clocks.row(x)?, self.clocks.row(y)?) {
-            return Some(false);
+            return Some(());
         }
-        let mut is_new = false;
         for process in 0..self.procs {
             let count = if process == owner {
                 at.checked_add(1)?
@@ -298,25 +284,33 @@ impl Search {
                 self.before(x, process)?
             };
             if self.before(y, process)? < count {
-                self.clocks.set(y, process, count)?;
-                self.raise(spot, process, count, by)?;
-                is_new = true;
+                self.raise(y, process, count, id)?;
             }
         }
-        if is_new {
-            self.waiting.raised(y)?;
-        }
-        Some(is_new)
+        Some(())
     }
 
-    // So many of a process come before this place of its owner, by this step or by the order of its process.
-    fn raise(&mut self, spot: (u32, u32), process: u32, count: u32, by: Option<u32>) -> Option<()> {
-        if let Some(id) = by {
-            self.rises.add(spot, process, count, id)?;
+    /// So many of a process come before `y`, by this step, and before what comes after `y` in its process. What steps lead on
+    /// from is flagged.
+    pub(crate) fn raise(&mut self, y: u32, process: u32, count: u32, id: u32) -> Option<()> {
+        let (owner, at) = self.numbering.spot(y)?;
+        self.rises.add((owner, at), process, count, id)?;
+        if let Some(afters) = &mut self.afters {
+            let lowered = lower(afters, &self.numbering, (owner, at), process, count)?;
+            self.burn(lowered)?;
         }
-        match &mut self.afters {
-            Some(afters) => lower(afters, &self.numbering, spot, process, count),
-            None => Some(()),
+        for place in at..self.numbering.count(owner)? {
+            let x = self.numbering.number(owner, place)?;
+            if self.before(x, process)? >= count {
+                break;
+            }
+            self.burn(1)?;
+            self.clocks.set(x, process, count)?;
+            self.waiting.raised(x)?;
+            if self.steps.newest(x).is_some() {
+                self.flags.add(x)?;
+            }
         }
+        Some(())
     }
 }

@@ -19,14 +19,14 @@ impl Search {
         };
         let id = self.add(nothing, Why::Assumed, &[])?;
         self.skew = Some(id);
-        for x in 0..self.ops {
+        for back in 1..=self.ops {
             self.burn(self.procs)?;
-            self.suppose_at(x, tenths, id)?;
+            self.suppose_at(self.ops.checked_sub(back)?, tenths, id)?;
         }
-        self.spread()
+        Some(())
     }
 
-    // At least so many operations of each process come before `x`.
+    // At least so many operations of each process come before `x`. What comes after it has more before it already.
     fn suppose_at(&mut self, x: u32, tenths: u64, id: u32) -> Option<()> {
         let (owner, place) = self.numbering.spot(x)?;
         let length = *self.whole.get(owner as usize)?;
@@ -36,9 +36,7 @@ impl Search {
                 self.numbering.count(process)?,
             );
             if process != owner && count > self.before(x, process)? {
-                self.clocks.set(x, process, count)?;
-                self.rises.add((owner, place), process, count, id)?;
-                self.flags.add(x)?;
+                self.raise(x, process, count, id)?;
             }
         }
         Some(())

@@ -1,14 +1,14 @@
 //! What each read sees in some schedule, as a guess.
 use crate::cases::Ending;
 use crate::claims::Kind;
-use crate::given::Given;
 use crate::goals::Goal;
 use crate::search::Search;
-use scm_clocks::{Clocks, Part};
+use scm_clocks::{Clocks, Given};
 use std::alloc::Global;
+use std::ops::Range;
 
 /// How many skews are supposed one after the other before none is, and by which part of the first one they grow.
-const SKEWS: u64 = 4;
+pub const SKEWS: u64 = 4;
 
 const GROWTH: u64 = 5;
 
@@ -20,57 +20,42 @@ const LEAST: u64 = 18;
 /// How many hundredths of the fuel that is left each skew may burn.
 const SHARE: u64 = 85;
 
-/// What each read may see in a schedule: the number of a write, where operations are numbered from 0 on, those of process 0
-/// in order, then those of process 1, ..; or, where it is first contents, the number of the cell after them. With it the
-/// clocks of what was drawn from that.
+/// What each read may see in a schedule: the number of a write; or, where it is first contents, the number of the cell after
+/// those of the operations. With it the clocks of what was drawn from that, and under which skew it was found.
 #[derive(Drop)]
 pub struct Guess {
+    pub given: Given,
     pub sources: Vec<Option<u32>>,
     pub clocks: Clocks,
+    pub rung: u64,
 }
 
-/// What reads may see in a schedule of this part of a trace. `None` where nothing was found: where no schedule exists as far
-/// as was seen, after `fuel` steps, and where memory is refused. Nothing is promised of it. What is left of the fuel stays.
-pub fn find_sources(alloc: Global, part: &Part, fuel: &mut u64) -> Option<Guess> {
-    fuel.checked_sub(part.size())?;
-    let (guess, given) = under_skews(alloc, Given::new(alloc, part)?, fuel)?;
-    if guess.is_some() {
-        return guess;
-    }
-    let mut search = Search::new(alloc, Goal::Schedule, given?, *fuel)?;
-    let settled = search.settle_reads();
-    *fuel = search.fuel;
-    settled?;
-    search.guess()
-}
-
-/// The same, but only where processes don't get far ahead of each other.
-pub fn find_sources_under_skews(alloc: Global, part: &Part, fuel: &mut u64) -> Option<Guess> {
-    fuel.checked_sub(part.size())?;
-    let (guess, _) = under_skews(alloc, Given::new(alloc, part)?, fuel)?;
-    guess
-}
-
-// One skew after the other, from small ones to large ones: what was found, or else what the search began with.
-fn under_skews(
+/// What reads may see in a schedule: where no process gets farther ahead of another than by the skews of these numbers, one
+/// after the other, from small ones to large ones; from `SKEWS` on, wherever they are. `None` where nothing was found: where no
+/// schedule exists as far as was seen, after `fuel` steps, and where memory is refused. Nothing is promised of it. What is left
+/// of the fuel stays.
+pub fn find_sources(
     alloc: Global,
     given: Given,
+    rungs: Range<u64>,
     fuel: &mut u64,
-) -> Option<(Option<Guess>, Option<Given>)> {
+) -> Option<Guess> {
     let mut given = given;
-    for rung in 0..SKEWS {
-        let share = fuel.saturating_mul(SHARE) / 100;
+    for rung in rungs {
+        let share = if rung < SKEWS {
+            fuel.saturating_mul(SHARE) / 100
+        } else {
+            *fuel
+        };
         let mut search = Search::new(alloc, Goal::Schedule, given, share)?;
-        let first = search.first_skew()?;
-        let skew = first.saturating_add(first.saturating_mul(rung) / GROWTH);
-        let settled = search.settle_under(skew);
+        let settled = search.settle_under(rung);
         *fuel = fuel.saturating_sub(share.saturating_sub(search.fuel));
         if settled.is_some() {
-            return Some((search.guess(), None));
+            return search.guess(rung);
         }
-        given = search.into_given();
+        (given, _) = search.into_parts();
     }
-    Some((None, Some(given)))
+    None
 }
 
 impl Search {
@@ -95,13 +80,12 @@ impl Search {
         )
     }
 
-    // Finds what each read may see, where processes get no farther ahead of each other than this.
-    fn settle_under(&mut self, skew: u64) -> Option<()> {
-        self.suppose_skew(skew)?;
-        self.settle_reads()
-    }
-
-    fn settle_reads(&mut self) -> Option<()> {
+    // Finds what each read may see, where processes get no farther ahead of each other than by the skew of this number.
+    fn settle_under(&mut self, rung: u64) -> Option<()> {
+        if rung < SKEWS {
+            let first = self.first_skew()?;
+            self.suppose_skew(first.saturating_add(first.saturating_mul(rung) / GROWTH))?;
+        }
         self.look_back()?;
         self.touch_all()?;
         match self.try_cases()? {
@@ -110,11 +94,15 @@ impl Search {
         }
     }
 
-    fn guess(self) -> Option<Guess> {
+    fn guess(self, rung: u64) -> Option<Guess> {
         let sources = self.sources()?;
-        let Search { alloc, clocks, .. } = self;
-        let clocks = clocks.kept(alloc);
-        Some(Guess { sources, clocks })
+        let (given, clocks) = self.into_parts();
+        Some(Guess {
+            given,
+            sources,
+            clocks,
+            rung,
+        })
     }
 
     fn sources(&self) -> Option<Vec<Option<u32>>> {

@@ -78,7 +78,9 @@ impl Search {
             return Some(());
         }
         for process in 0..self.procs {
-            for at in self.before(to, process)?..self.up_to(from, process)? {
+            let (start, end) = (self.before(to, process)?, self.up_to(from, process)?);
+            self.burn(end.saturating_sub(start))?;
+            for at in start..end {
                 let x = self.numbering.number(process, at)?;
                 self.touch_around(x, Side::After)?;
             }

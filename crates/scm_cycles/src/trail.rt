@@ -74,7 +74,8 @@ impl Search {
         self.clocks.take_back(mark.changes)?;
         self.afters.as_mut()?.take_back(mark.afters)?;
         self.rises.take_back(mark.rises)?;
-        self.candidates.as_mut()?.take_back(mark.candidates)?;
+        let steps = self.candidates.as_mut()?.take_back(mark.candidates)?;
+        self.burn_for(steps)?;
         for _ in mark.lefts..self.trail.lefts.len() {
             let (read, left) = self.trail.lefts.pop()?;
             self.choices.set_left(read, left)?;

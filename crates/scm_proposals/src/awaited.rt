@@ -1,6 +1,6 @@
 //! What is to be made.
 use crate::facts::Facts;
-use scm_clocks::Numbers;
+use crate::numbers::Numbers;
 use std::alloc::Global;
 
 /// Counts of the operations that are not made.

@@ -1,6 +1,6 @@
 //! What is known of a trace before the walk.
 use crate::sources::Sources;
-use scm_clocks::{Numbering, Part, Values, Writers, Writes};
+use scm_clocks::{Given, Numbering, Values, Writes};
 use std::alloc::Global;
 
 #[derive(Drop)]
@@ -8,7 +8,6 @@ pub(crate) struct Facts {
     pub(crate) numbering: Numbering,
     pub(crate) values: Values,
     pub(crate) writes: Writes,
-    pub(crate) writers: Writers,
     pub(crate) sources: Sources,
     pub(crate) procs: u32,
     pub(crate) ops: u32,
@@ -16,23 +15,22 @@ pub(crate) struct Facts {
 }
 
 impl Facts {
-    pub(crate) fn new(alloc: Global, part: &Part) -> Option<Facts> {
-        let numbering = Numbering::new(alloc, part)?;
-        let procs = numbering.procs()?;
-        let ops = numbering.len()?;
-        let cells = u32::try_from(part.contents.len()).ok()?;
-        let mut values = Values::new(alloc, part, &numbering)?;
-        let writes = Writes::new(alloc, cells, &numbering, &values)?;
-        let writers = Writers::new(alloc, &numbering, &values)?;
-        let sources = Sources::new(alloc, &numbering, &mut values)?;
-        Some(Facts {
-            procs,
-            ops,
-            cells,
+    pub(crate) fn new(alloc: Global, given: Given) -> Option<Facts> {
+        let mut given = given;
+        let sources = Sources::new(alloc, &mut given)?;
+        let Given {
             numbering,
             values,
             writes,
-            writers,
+            ..
+        } = given;
+        Some(Facts {
+            procs: numbering.procs()?,
+            ops: numbering.len()?,
+            cells: u32::try_from(values.firsts().len()).ok()?,
+            numbering,
+            values,
+            writes,
             sources,
         })
     }

@@ -1,11 +1,13 @@
 //! What a search over sources may burn.
 use scm_sequences::Lengths;
 
-/// The fuel for each situation that the other search would look at: so much for four processes, and at least so much. With it
-/// the one takes about as long as the other.
-const FUEL_OF_FOUR: u64 = 5;
+/// The fuel for each situation that the other search would look at: so much for four processes, and at least and at most so
+/// much. With it the one takes about as long as the other.
+const FUEL_OF_FOUR: u64 = 6;
 
 const LEAST_FUEL: u64 = 7;
+
+const MOST_FUEL: u64 = 36;
 
 /// The fuel of a search over sources before one that has room for so many situations. There is none where the counts tell no
 /// more apart: the other search mostly settles the question itself then.
@@ -21,6 +23,7 @@ pub(crate) fn fuel_of_search(lengths: &Lengths, room: usize) -> u64 {
     let fuel = (lengths.procs() as u64)
         .saturating_mul(FUEL_OF_FOUR)
         .div_ceil(4)
-        .max(LEAST_FUEL);
+        .max(LEAST_FUEL)
+        .min(MOST_FUEL);
     (room as u64).saturating_mul(fuel)
 }

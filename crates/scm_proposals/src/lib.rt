@@ -9,6 +9,7 @@ mod ending;
 mod facts;
 mod fuel;
 mod memory;
+mod numbers;
 mod order;
 mod proposal;
 mod rank;

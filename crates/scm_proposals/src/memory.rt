@@ -1,6 +1,6 @@
 //! What the cells hold during the walk.
 use crate::facts::Facts;
-use scm_clocks::Numbers;
+use crate::numbers::Numbers;
 use std::alloc::Global;
 
 /// The contents of each cell, who wrote them, and how often the cell was written.

@@ -1,6 +1,7 @@
 //! What comes before what in every legal schedule that begins with what was made so far.
 use crate::facts::Facts;
-use scm_clocks::{Clocks, Flags, Numbers, is_covered};
+use crate::numbers::Numbers;
+use scm_clocks::{Clocks, Flags, is_covered};
 use std::alloc::Global;
 
 /// How far beyond the front operations are visited during the walk.
@@ -16,25 +17,21 @@ pub(crate) struct Order {
     pub(crate) flags: Flags,
     pub(crate) window: u32,
     pub(crate) fuel: u64,
+    pub(crate) visits: u64,
     /// What is left of the fuel for one write's consequences.
     pub(crate) share: u64,
 }
 
 impl Order {
-    /// The order of the processes, with all operations flagged, in turn for all processes.
-    pub(crate) fn new(alloc: Global, facts: Facts, fuel: u64) -> Option<Order> {
-        let clocks = Clocks::new(alloc, &facts.numbering)?;
-        Order::over(alloc, facts, clocks, fuel)
-    }
-
     /// The order that these clocks tell, with all operations flagged.
-    pub(crate) fn over(alloc: Global, facts: Facts, clocks: Clocks, fuel: u64) -> Option<Order> {
+    pub(crate) fn new(alloc: Global, facts: Facts, clocks: Clocks, fuel: u64) -> Option<Order> {
         let mut order = Order {
             clocks,
             counts: Numbers::zeros(alloc, facts.procs)?,
             flags: Flags::new(alloc, facts.ops)?,
             window: u32::MAX,
             fuel,
+            visits: 0,
             share: fuel,
             facts,
         };
@@ -42,8 +39,8 @@ impl Order {
         Some(order)
     }
 
-    /// Flags all operations, in turn for all processes.
-    pub(crate) fn flag_all(&mut self) -> Option<()> {
+    // Flags all operations, in turn for all processes.
+    fn flag_all(&mut self) -> Option<()> {
         for place in 0..self.facts.ops {
             self.flag_at(place)?;
         }
@@ -75,6 +72,7 @@ impl Order {
 
     pub(crate) fn burn(&mut self) -> Option<()> {
         self.fuel = self.fuel.checked_sub(1)?;
+        self.visits = self.visits.saturating_add(1);
         Some(())
     }
 

@@ -4,8 +4,8 @@ use crate::facts::Facts;
 use crate::fuel::fuel_of_search;
 use crate::order::Order;
 use crate::walk::Walk;
-use scm_clocks::{Part, counts_of};
-use scm_cycles::{Guess, find_sources};
+use scm_clocks::{Clocks, Given, Part, counts_of};
+use scm_cycles::{Guess, SKEWS, find_sources};
 use scm_sequences::{Lengths, Sequences};
 use std::alloc::Global;
 
@@ -25,6 +25,9 @@ const LEAST_FUEL: u64 = 10_000;
 
 /// For how many situations of the limit a walk makes one visit more where it makes no more operations than before.
 const SITUATIONS_OF_PATIENCE: usize = 8;
+
+/// How much fuel of the search a visit burns for each process.
+const PRICE_OF_VISIT: u64 = 2;
 
 /// How many places of an earlier schedule are put together anew when all of it can't be kept: at first so many, then
 /// each time so many times more.
@@ -74,13 +77,14 @@ pub fn propose(
         room,
     };
     let longest = proposer.beginning(earlier.len())?;
+    let mut fuel = fuel_of_search(lengths, room);
     let mut tail = 0;
     for _ in 0..usize::BITS {
         let kept = longest.len_without(tail);
         if kept == 0 {
-            return proposer.complete_from_nothing();
+            return proposer.complete_from_nothing(&mut fuel);
         }
-        if let Some(schedule) = proposer.complete(kept) {
+        if let Some(schedule) = proposer.go_on(kept, &mut fuel) {
             return Some(schedule);
         }
         tail = tail
@@ -99,59 +103,87 @@ impl Proposer<'_> {
         Some(beginning)
     }
 
+    /// The operations after a beginning and up to these ends, of which so many are checked.
+    pub(crate) fn part<'b>(
+        &'b self,
+        beginning: &'b Beginning,
+        ends: &'b [u32],
+        checked: u32,
+    ) -> Part<'b> {
+        Part {
+            contents: beginning.contents.as_slice(),
+            sequences: self.sequences,
+            made: beginning.counts.as_slice(),
+            ends,
+            checked,
+            whole: self.counts,
+        }
+    }
+
+    // All operations after so many places of the earlier schedule.
+    fn given(&self, kept: usize) -> Option<Given> {
+        let beginning = self.beginning(kept)?;
+        Given::new(self.alloc, &self.part(&beginning, self.counts, u32::MAX))
+    }
+
     /// A schedule that begins with so many places of the earlier one.
-    fn complete(&self, kept: usize) -> Option<Vec<u8>> {
+    fn go_on(&self, kept: usize, fuel: &mut u64) -> Option<Vec<u8>> {
         let mut walk = self.walk(kept)?;
-        walk.make_all()?;
-        self.schedule(kept, &walk)
+        self.complete(kept, &mut walk, fuel)
     }
 
     /// A schedule that is made from nothing: by a walk, or else window by window, or else by a walk in which each read has the
     /// source that a search chose.
-    fn complete_from_nothing(&self) -> Option<Vec<u8>> {
+    fn complete_from_nothing(&self, fuel: &mut u64) -> Option<Vec<u8>> {
         let mut walk = self.walk(0)?;
-        if walk.make_all().is_some() {
-            return self.schedule(0, &walk);
-        }
-        let mut fuel = fuel_of_search(self.lengths, self.room);
-        if let Some(schedule) = self.complete_by_windows(&mut fuel) {
+        if let Some(schedule) = self.complete(0, &mut walk, fuel) {
             return Some(schedule);
         }
-        let none = vec![in self.alloc; 0; self.counts.len()].ok()?;
-        let part = Part::all(self.initials, self.sequences, none.as_slice(), self.counts);
-        let Guess { sources, .. } = find_sources(self.alloc, &part, &mut fuel)?;
-        let facts = self.facts_by(&part, sources.as_slice())?;
+        if !walk.has_begun() {
+            return None;
+        }
+        drop(walk);
+        if let Some(schedule) = self.complete_by_windows(fuel) {
+            return Some(schedule);
+        }
+        let mut guess = find_sources(self.alloc, self.given(0)?, 0..SKEWS + 1, fuel)?;
+        guess.clocks = Clocks::new(self.alloc, &guess.given.numbering)?;
+        self.complete_by(guess, fuel)
+    }
+
+    /// A walk that goes on from so many places.
+    fn walk(&self, kept: usize) -> Option<Walk> {
+        let facts = Facts::new(self.alloc, self.given(kept)?)?;
+        let clocks = Clocks::new(self.alloc, &facts.numbering)?;
+        self.walk_under(facts, clocks)
+    }
+
+    fn walk_under(&self, facts: Facts, clocks: Clocks) -> Option<Walk> {
         let fuel = self.fuel(&facts);
-        let order = Order::new(self.alloc, facts, fuel)?;
-        self.schedule(0, &self.walk_through(order)?)
+        let order = Order::new(self.alloc, facts, clocks, fuel)?;
+        Walk::new(self.alloc, order, self.patience())
     }
 
     /// A schedule of a part in which each read has the source that was guessed, and that keeps the guessed orders.
-    pub(crate) fn schedule_by(&self, part: &Part, guess: Guess) -> Option<Vec<u8>> {
-        let Guess { sources, clocks } = guess;
-        let facts = self.facts_by(part, sources.as_slice())?;
-        let fuel = self.fuel(&facts);
-        let order = Order::over(self.alloc, facts, clocks, fuel)?;
-        self.schedule(0, &self.walk_through(order)?)
+    pub(crate) fn complete_by(&self, guess: Guess, fuel: &mut u64) -> Option<Vec<u8>> {
+        let Guess {
+            given,
+            sources,
+            clocks,
+            ..
+        } = guess;
+        let mut facts = Facts::new(self.alloc, given)?;
+        facts.take_over(sources.as_slice())?;
+        let mut walk = self.walk_under(facts, clocks)?;
+        self.complete(0, &mut walk, fuel)
     }
 
-    // What is known of a part in which reads have these sources.
-    fn facts_by(&self, part: &Part, sources: &[Option<u32>]) -> Option<Facts> {
-        let mut facts = Facts::new(self.alloc, part)?;
-        facts.take_over(sources)?;
-        Some(facts)
-    }
-
-    fn walk_through(&self, order: Order) -> Option<Walk> {
-        let mut order = order;
-        order.spread()?;
-        let mut walk = Walk::new(self.alloc, order, self.patience())?;
-        walk.make_all()?;
-        Some(walk)
-    }
-
-    /// So many places of the earlier schedule, and then the walk.
-    fn schedule(&self, kept: usize, walk: &Walk) -> Option<Vec<u8>> {
+    /// So many places of the earlier schedule, and then the walk, if it comes to its end: that burns fuel of the search.
+    fn complete(&self, kept: usize, walk: &mut Walk, fuel: &mut u64) -> Option<Vec<u8>> {
+        let end = walk.make_all();
+        let price = u64::from(walk.order.facts.procs).saturating_mul(PRICE_OF_VISIT);
+        *fuel = fuel.saturating_sub(walk.order.visits.saturating_mul(price));
+        end?;
         let mut schedule = Vec::new(self.alloc);
         for place in self.earlier.get(..kept)? {
             schedule.push(*place).ok()?;
@@ -160,38 +192,10 @@ impl Proposer<'_> {
         Some(schedule)
     }
 
-    /// A walk that goes on from so many places.
-    fn walk(&self, kept: usize) -> Option<Walk> {
-        Walk::new(self.alloc, self.order(kept)?, self.patience())
-    }
-
     /// How many visits a walk makes at most where it makes no more operations than before.
     fn patience(&self) -> u64 {
         let patience = (self.limit / SITUATIONS_OF_PATIENCE) as u64;
         patience.saturating_add(LEAST_FUEL)
-    }
-
-    /// What is known after so many places.
-    fn facts(&self, kept: usize) -> Option<Facts> {
-        let beginning = self.beginning(kept)?;
-        let part = Part {
-            contents: beginning.contents.as_slice(),
-            sequences: self.sequences,
-            made: beginning.counts.as_slice(),
-            ends: self.counts,
-            checked: u32::MAX,
-            whole: self.counts,
-        };
-        Facts::new(self.alloc, &part)
-    }
-
-    /// What comes before what after so many places.
-    fn order(&self, kept: usize) -> Option<Order> {
-        let facts = self.facts(kept)?;
-        let fuel = self.fuel(&facts);
-        let mut order = Order::new(self.alloc, facts, fuel)?;
-        order.spread()?;
-        Some(order)
     }
 
     /// The fuel for what is left.

@@ -1,17 +1,9 @@
 //! Where reads have their values from.
-use scm_clocks::{Grid, Numbering, Values};
+use scm_clocks::{Given, Grid, Numbering};
 use std::alloc::Global;
 
-/// The writer of a value, as far as it is known: an operation, or the first contents of a cell, which stand after the
-/// operations.
-#[derive(Clone, Copy)]
-enum Writer {
-    Nobody,
-    One(u32),
-    Several,
-}
-
-/// For each read its source, where that is known: whose value it found.
+/// For each read its source, where that is known: the operation whose value it found, or the number of a cell after those of
+/// the operations, for first contents.
 #[derive(Drop)]
 pub(crate) struct Sources {
     of: Vec<Option<u32>>,
@@ -19,45 +11,15 @@ pub(crate) struct Sources {
     pub(crate) readers: Grid,
 }
 
-// What is known of the writers of each value. An open cell has at first a value that is read and that nobody writes.
-fn writers(alloc: Global, numbering: &Numbering, values: &mut Values) -> Option<Vec<Writer>> {
-    let mut writers = vec![in alloc; Writer::Nobody; values.count() as usize].ok()?;
-    let ops = numbering.len()?;
-    for x in 0..ops {
-        if let Some(value) = values.written(x) {
-            note(&mut writers, value, x)?;
-        }
-    }
-    fill_open(numbering, values, &writers)?;
-    for (cell, first) in values.firsts().iter().enumerate() {
-        if let Some(value) = first {
-            note(
-                &mut writers,
-                *value,
-                ops.checked_add(u32::try_from(cell).ok()?)?,
-            )?;
-        }
-    }
-    Some(writers)
-}
-
-fn note(writers: &mut [Writer], value: u32, x: u32) -> Option<()> {
-    let writer = writers.get_mut(value as usize)?;
-    *writer = match *writer {
-        Writer::Nobody => Writer::One(x),
-        _ => Writer::Several,
-    };
-    Some(())
-}
-
-fn fill_open(numbering: &Numbering, values: &mut Values, writers: &[Writer]) -> Option<()> {
-    for x in 0..numbering.len()? {
-        let Some(value) = values.found(x) else {
+// An open cell has at first a value that is read and that nobody writes.
+fn fill_open(given: &mut Given) -> Option<()> {
+    for x in 0..given.numbering.len()? {
+        let Some(value) = given.values.found(x) else {
             continue;
         };
-        let cell = numbering.cell(x)?;
-        if values.first(cell)?.is_none() && matches!(writers.get(value as usize)?, Writer::Nobody) {
-            values.set_first(cell, value)?;
+        let cell = given.numbering.cell(x)?;
+        if given.values.first(cell)?.is_none() && given.writers.of(value)?.is_empty() {
+            given.values.set_first(cell, value)?;
         }
     }
     Some(())
@@ -65,39 +27,35 @@ fn fill_open(numbering: &Numbering, values: &mut Values, writers: &[Writer]) -> 
 
 impl Sources {
     /// Those of reads whose value has one writer. `None` also where a value that is read has no writer.
-    pub(crate) fn new(
-        alloc: Global,
-        numbering: &Numbering,
-        values: &mut Values,
-    ) -> Option<Sources> {
-        let writers = writers(alloc, numbering, values)?;
-        let cells = u32::try_from(values.firsts().len()).ok()?;
-        let ops = numbering.len()?;
+    pub(crate) fn new(alloc: Global, given: &mut Given) -> Option<Sources> {
+        fill_open(given)?;
+        let ops = given.numbering.len()?;
+        let cells = u32::try_from(given.values.firsts().len()).ok()?;
         let rows = ops.checked_add(cells)?;
         let mut sources = Sources {
             of: vec![in alloc; None; ops as usize].ok()?,
-            readers: Grid::zeros(alloc, rows, numbering.procs()?)?,
+            readers: Grid::zeros(alloc, rows, given.numbering.procs()?)?,
         };
-        sources.find_all(numbering, values, &writers)?;
+        for x in 0..ops {
+            if let Some(value) = given.values.found(x) {
+                sources.find(given, x, value)?;
+            }
+        }
         Some(sources)
     }
 
-    fn find_all(
-        &mut self,
-        numbering: &Numbering,
-        values: &Values,
-        writers: &[Writer],
-    ) -> Option<()> {
-        for x in 0..numbering.len()? {
-            if let Some(value) = values.found(x) {
-                match *writers.get(value as usize)? {
-                    Writer::Nobody => return None,
-                    Writer::One(source) => self.settle(numbering, x, source)?,
-                    Writer::Several => (),
-                }
+    fn find(&mut self, given: &Given, x: u32, value: u32) -> Option<()> {
+        let cell = given.numbering.cell(x)?;
+        let is_first = given.values.first(cell)? == Some(value);
+        match given.writers.of(value)? {
+            [] if is_first => {
+                let first = given.numbering.len()?.checked_add(cell)?;
+                self.settle(&given.numbering, x, first)
             }
+            [] => None,
+            [source] if !is_first => self.settle(&given.numbering, x, *source),
+            _ => Some(()),
         }
-        Some(())
     }
 
     /// The source of a read, if it is known.

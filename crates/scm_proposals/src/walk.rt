@@ -2,9 +2,9 @@
 use crate::awaited::Awaited;
 use crate::choosing::Choice;
 use crate::memory::{Before, Memory};
+use crate::numbers::Numbers;
 use crate::order::Order;
 use crate::rank::Rank;
-use scm_clocks::Numbers;
 use std::alloc::Global;
 
 /// How many visits the consequences of one write may take.
@@ -60,12 +60,8 @@ struct Decision {
 }
 
 impl Walk {
-    /// Before any operation, under an order that is saturated. Where it makes no more operations than before, it burns no more
-    /// than `patience`.
-    pub(crate) fn new(alloc: Global, mut order: Order, patience: u64) -> Option<Walk> {
-        order.begin_walk();
-        order.share = SHARE;
-        let held_back = order.hold_back(patience);
+    /// Before any operation. Where it makes no more operations than before, it burns no more than `patience`.
+    pub(crate) fn new(alloc: Global, order: Order, patience: u64) -> Option<Walk> {
         let memory = Memory::new(alloc, &order.facts)?;
         let awaited = Awaited::new(alloc, &order.facts)?;
         let barred = Numbers::zeros(alloc, order.facts.ops)?;
@@ -80,12 +76,21 @@ impl Walk {
             decisions: Vec::new(alloc),
             farthest: 0,
             patience,
-            held_back,
+            held_back: 0,
         })
     }
 
-    /// Makes all operations. `None` where it gives up.
+    /// Whether any operation can be made, as far as was seen.
+    pub(crate) fn has_begun(&self) -> bool {
+        self.farthest > 0
+    }
+
+    /// Makes all operations, once the order is saturated. `None` where it gives up.
     pub(crate) fn make_all(&mut self) -> Option<()> {
+        self.order.spread()?;
+        self.order.begin_walk();
+        self.order.share = SHARE;
+        self.held_back = self.order.hold_back(self.patience);
         for _ in 0..u64::MAX {
             if self.made.len() == self.order.facts.ops as usize {
                 return Some(());

@@ -2,8 +2,8 @@
 //! their schedule the beginning is kept.
 use crate::beginning::Beginning;
 use crate::proposal::Proposer;
-use scm_clocks::Part;
-use scm_cycles::find_sources_under_skews;
+use scm_clocks::{Given, Part};
+use scm_cycles::{Guess, SKEWS, find_sources};
 
 /// How many operations of each process a window has, at least and at most: one without a schedule is followed by one of twice
 /// as many that begins earlier.
@@ -22,22 +22,18 @@ const WHOLE: u32 = 16;
 /// The fuel for each operation of a window, at most.
 const FUEL: u64 = 2_000;
 
-/// What a unit of fuel takes of the time in a window, whose clocks are near at hand, and in a search of the whole trace.
-const PRICE: u64 = 3;
-
-const PRICE_OF_WHOLE: u64 = 4;
-
 /// For how many windows a trace is long enough, and for how many processes they cost less than the trace as a whole.
 const LEAST_WINDOWS: u32 = 3;
 
 const MOST_PROCESSES: usize = 8;
 
-/// What was made so far, and how wide the next window is.
+/// What was made so far, how wide the next window is, and the number of the first skew that is supposed there.
 #[derive(Drop)]
 struct Progress {
     beginning: Beginning,
     schedule: Vec<u8>,
     width: u32,
+    rung: u64,
 }
 
 impl Progress {
@@ -81,6 +77,7 @@ impl Proposer<'_> {
             beginning: Beginning::new(self.alloc, self.initials, self.counts.len())?,
             schedule: Vec::new(self.alloc),
             width: WIDTH,
+            rung: 0,
         };
         for _ in 0..*fuel {
             if progress.beginning.left(self.lengths) == 0 {
@@ -99,19 +96,17 @@ impl Proposer<'_> {
     fn add_window(&self, progress: &mut Progress, fuel: &mut u64) -> Option<bool> {
         let ends = progress.ends(self)?;
         let is_last = ends.as_slice() == self.counts;
-        let part = Part {
-            contents: progress.beginning.contents.as_slice(),
-            sequences: self.sequences,
-            made: progress.beginning.counts.as_slice(),
-            ends: ends.as_slice(),
-            checked: if is_last {
-                u32::MAX
-            } else {
-                progress.width.saturating_mul(CHECKED) / WHOLE
-            },
-            whole: self.counts,
+        let checked = if is_last {
+            u32::MAX
+        } else {
+            progress.width.saturating_mul(CHECKED) / WHOLE
         };
-        let Some(places) = self.complete_part(&part, fuel) else {
+        let part = self.part(&progress.beginning, ends.as_slice(), checked);
+        let Some(guess) = self.guess(&part, progress.rung, fuel) else {
+            return Some(false);
+        };
+        progress.rung = guess.rung;
+        let Some(places) = self.complete_by(guess, fuel) else {
             return Some(false);
         };
         let kept = if is_last {
@@ -122,15 +117,17 @@ impl Proposer<'_> {
         progress.keep(self, places.get(..kept)?)
     }
 
-    // A schedule of a window, in which what isn't checked finds anything.
-    fn complete_part(&self, part: &Part, fuel: &mut u64) -> Option<Vec<u8>> {
-        let ops = part.size().checked_div(self.counts.len() as u64)?;
-        let most = ops.saturating_mul(FUEL).min(*fuel);
+    // What reads see in a window, under the skews from this one on.
+    fn guess(&self, part: &Part, rung: u64, fuel: &mut u64) -> Option<Guess> {
+        *fuel = fuel.checked_sub(part.size())?;
+        let given = Given::new(self.alloc, part)?;
+        let most = u64::from(given.numbering.len()?)
+            .saturating_mul(FUEL)
+            .min(*fuel);
         let mut left = most;
-        let guess = find_sources_under_skews(self.alloc, part, &mut left);
-        let burnt = most.saturating_sub(left).saturating_mul(PRICE) / PRICE_OF_WHOLE;
-        *fuel = fuel.checked_sub(burnt.max(1))?;
-        self.schedule_by(part, guess?)
+        let guess = find_sources(self.alloc, given, rung..SKEWS, &mut left);
+        *fuel = fuel.saturating_sub(most.saturating_sub(left));
+        guess
     }
 
     // Takes back as many places as are kept of a window, for one that is twice as wide.
@@ -146,6 +143,7 @@ impl Proposer<'_> {
             .beginning
             .follow(self.sequences, self.lengths, progress.schedule.as_slice());
         progress.width = progress.width.saturating_mul(2);
+        progress.rung = 0;
         Some(())
     }
 }

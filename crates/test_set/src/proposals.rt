@@ -101,7 +101,7 @@ fn decides(
 #[test]
 fn contradictions_are_learned_from(rt: HostRuntime) {
     for seed in [2, 5, 8, 18] {
-        assert!(rt; decides(&rt, rt.alloc(), FEW_VALUES, seed, 120, 10_000));
+        assert!(rt; decides(&rt, rt.alloc(), FEW_VALUES, seed, 120, 14_000));
     }
 }
 

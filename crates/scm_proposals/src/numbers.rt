@@ -3,49 +3,40 @@ use std::alloc::Global;
 
 /// A list of numbers, read and written by place. A place beyond its end gives `None`.
 #[derive(Drop)]
-pub struct Numbers {
+pub(crate) struct Numbers {
     list: Vec<u32>,
 }
 
 impl Numbers {
     /// So many zeros.
-    pub fn zeros(alloc: Global, n: u32) -> Option<Numbers> {
+    pub(crate) fn zeros(alloc: Global, n: u32) -> Option<Numbers> {
         Some(Numbers {
             list: vec![in alloc; 0; n as usize].ok()?,
         })
     }
 
     /// The number at a place.
-    pub fn get(&self, place: u32) -> Option<u32> {
+    pub(crate) fn get(&self, place: u32) -> Option<u32> {
         self.list.get(place as usize).copied()
     }
 
     /// Puts a number at a place.
-    pub fn set(&mut self, place: u32, number: u32) -> Option<()> {
+    pub(crate) fn set(&mut self, place: u32, number: u32) -> Option<()> {
         *self.list.get_mut(place as usize)? = number;
         Some(())
     }
 
     /// Adds one.
-    pub fn raise(&mut self, place: u32) -> Option<()> {
+    pub(crate) fn raise(&mut self, place: u32) -> Option<()> {
         let number = self.list.get_mut(place as usize)?;
         *number = number.checked_add(1)?;
         Some(())
     }
 
     /// Takes one away.
-    pub fn lower(&mut self, place: u32) -> Option<()> {
+    pub(crate) fn lower(&mut self, place: u32) -> Option<()> {
         let number = self.list.get_mut(place as usize)?;
         *number = number.checked_sub(1)?;
         Some(())
     }
-}
-
-/// Whether each number is at most the one at its place among `others`.
-pub fn is_covered(numbers: &[u32], others: &[u32]) -> bool {
-    let mut is_more = false;
-    for (number, other) in numbers.iter().zip(others) {
-        is_more |= number > other;
-    }
-    !is_more
 }
