@@ -60,8 +60,42 @@ pub(crate) struct Search {
     most_changes: u64,
 }
 
+/// What a search of so many operations writes on.
+#[derive(Drop)]
+struct Room {
+    steps: Steps,
+    settled: Settled,
+    waiting: Waiting,
+    choices: Choices,
+    clauses: Clauses,
+    clocks: Clocks,
+    rises: Rises,
+    flags: Flags,
+}
+
+impl Room {
+    fn new(alloc: Global, given: &Given, ops: u32, procs: u32) -> Option<Room> {
+        let cells = u32::try_from(given.values.firsts().len()).ok()?;
+        Some(Room {
+            steps: Steps::new(alloc, ops)?,
+            settled: Settled::new(alloc, ops, cells)?,
+            waiting: Waiting::new(alloc, ops)?,
+            choices: Choices::new(alloc, ops)?,
+            clauses: Clauses::new(alloc, ops)?,
+            clocks: Clocks::new(alloc, &given.numbering)?,
+            rises: Rises::new(alloc, procs)?,
+            flags: Flags::new(alloc, ops)?,
+        })
+    }
+}
+
 impl Search {
     pub(crate) fn new(alloc: Global, goal: Goal, given: Given, fuel: u64) -> Option<Search> {
+        let (procs, ops) = (given.numbering.procs()?, given.numbering.len()?);
+        let numbers = u64::from(ops).checked_mul(u64::from(procs))?;
+        let fuel = fuel.checked_sub(numbers)?;
+        let most_changes = numbers.checked_mul(CHANGES_OF_NUMBER)?;
+        let room = Room::new(alloc, &given, ops, procs)?;
         let Given {
             numbering,
             values,
@@ -69,11 +103,6 @@ impl Search {
             writers,
             whole,
         } = given;
-        let (procs, ops) = (numbering.procs()?, numbering.len()?);
-        let numbers = u64::from(ops).checked_mul(u64::from(procs))?;
-        let fuel = fuel.checked_sub(numbers)?;
-        let cells = u32::try_from(values.firsts().len()).ok()?;
-        let clocks = Clocks::new(alloc, &numbering)?;
         Some(Search {
             alloc,
             goal,
@@ -82,24 +111,24 @@ impl Search {
             writes,
             writers,
             whole,
-            steps: Steps::new(alloc, ops)?,
+            steps: room.steps,
             procs,
             ops,
-            settled: Settled::new(alloc, ops, cells)?,
-            waiting: Waiting::new(alloc, ops)?,
+            settled: room.settled,
+            waiting: room.waiting,
             trail: Trail::new(alloc),
-            choices: Choices::new(alloc, ops)?,
-            clauses: Clauses::new(alloc, ops)?,
+            choices: room.choices,
+            clauses: room.clauses,
             restarts: Restarts::FIRST,
             skew: None,
-            clocks,
+            clocks: room.clocks,
             afters: None,
             candidates: None,
-            rises: Rises::new(alloc, procs)?,
-            flags: Flags::new(alloc, ops)?,
+            rises: room.rises,
+            flags: room.flags,
             closing: None,
             fuel,
-            most_changes: numbers.checked_mul(CHANGES_OF_NUMBER)?,
+            most_changes,
         })
     }
 
