@@ -1,2 +1,3 @@
 pub mod CallerLaws
 pub mod ReplyLaws
+pub mod EqualityLaws

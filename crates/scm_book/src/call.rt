@@ -15,7 +15,7 @@ pub struct Decl {
 }
 
 /// What a session asks of the book.
-#[derive(Drop, Debug)]
+#[derive(Debug, PartialEq, Eq, Drop)]
 pub enum Call {
     /// Opens a trace of this many processes, with this budget and these cells.
     OpenTrace {

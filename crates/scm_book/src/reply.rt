@@ -18,7 +18,7 @@ pub struct Shown {
 }
 
 /// What the book answers to a call.
-#[derive(Drop, Debug)]
+#[derive(Debug, PartialEq, Eq, Drop)]
 pub enum Reply {
     Done,
     /// The number of a mark that was set.

@@ -1,1 +1,2 @@
 pub mod LoweringLaws
+pub mod AccessLaws

@@ -9,3 +9,4 @@ pub mod Refuting
 pub use Rattle.scm_sequences.specs.Traces
 pub use Rattle.scm_sequences.specs.Fronts
 pub use Rattle.scm_sequences.specs.Ops
+pub mod laws

@@ -72,7 +72,7 @@ impl Line {
 }
 
 /// Lines, each of which is to follow from the trace and from earlier lines, and the hints of all of them.
-#[derive(Debug, Drop)]
+#[derive(Debug, PartialEq, Eq, Drop)]
 pub struct Derivation {
     pub lines: Vec<Line>,
     pub hints: Vec<u32>,

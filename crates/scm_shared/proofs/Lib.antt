@@ -7,5 +7,4 @@ pub mod Auditing
 pub mod Taking
 pub mod Moves
 mod Following
-mod Lines
 mod Meeting

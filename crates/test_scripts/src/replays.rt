@@ -2,7 +2,6 @@
 
 use scm_book::{Book, Entry, Event, Reply, run_events};
 use scm_sequences::NoMemory;
-use scm_shared::same_reply;
 use std::alloc::Global;
 
 /// Whether a call that is made again is answered the same. A question may find another schedule, and where one of the two
@@ -12,7 +11,7 @@ fn is_same(first: &Reply, again: &Reply) -> bool {
         (Reply::Consistent { .. }, Reply::Consistent { .. }) => true,
         (Reply::Undecided, again) => is_verdict(again),
         (first, Reply::Undecided) => is_verdict(first),
-        _ => same_reply(first, again),
+        _ => first == again,
     }
 }
 

@@ -8,7 +8,7 @@ use crate::waiting::rises_to;
 use scm_book::Reply;
 use scm_expand::{Gate, run_workers};
 use scm_sessions::read_line;
-use scm_shared::{Audit, BookNaming, BookToken, Pass, SharedBook, same_reply};
+use scm_shared::{Audit, BookNaming, BookToken, Pass, SharedBook};
 use std::alloc::{AllocError, Global};
 use std::marker::Brand;
 use std::process::Abort;
@@ -87,7 +87,7 @@ impl Gate for Gusts {
 /// Whether the call that was answered so is the last that the pass kept.
 fn is_kept<B: BookNaming>(pass: &Pass<B>, reply: &Reply) -> bool {
     match pass.kept().last() {
-        Some((_, kept)) => same_reply(kept, reply),
+        Some((_, kept)) => kept == reply,
         None => false,
     }
 }

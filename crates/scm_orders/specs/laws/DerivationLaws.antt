@@ -1,16 +1,20 @@
--- Whether `==` of lines says that they are the same.
+-- `==` of derivations says whether they have the same lines and the same hints.
 use Rattle.std.proofs.Common.{rules, ◌≡◌, Bool, ◌&&◌, ◌==◌}
 use Rattle.std.specs.Bool.{Decides}
+use Rattle.std.specs.Cmp.{unsigned_Decides}
+use Rattle.std.specs.Cmp.Lexicographic.{pointwise_decides}
 use Rattle.scm_orders.specs.declared.place.Place.{Place}
 use Rattle.scm_orders.specs.declared.derivation.Fact.{Fact}
 use Rattle.scm_orders.specs.declared.derivation.Fact.TheVariants.{Before, Sees, SeesFirst, Hidden, Unseen, UnseenFirst}
 use Rattle.scm_orders.specs.declared.derivation.Rule.{Rule}
 use Rattle.scm_orders.specs.declared.derivation.Rule.TheVariants.{Joined, Hidden as HiddenBy, Source, AfterAll, BeforeAll, AfterSource, Assumed, Lemma}
 use Rattle.scm_orders.specs.declared.derivation.Line.{Line}
+use Rattle.scm_orders.specs.declared.derivation.Derivation.{Derivation}
 use Rattle.scm_orders.specs.contracts.place.PlacePartialEq.TheImpl as places
 use Rattle.scm_orders.specs.contracts.derivation.FactPartialEq.TheImpl as facts
 use Rattle.scm_orders.specs.contracts.derivation.RulePartialEq.TheImpl as rules_of
 use Rattle.scm_orders.specs.contracts.derivation.LinePartialEq.TheImpl as lines
+use Rattle.scm_orders.specs.contracts.derivation.DerivationPartialEq.TheImpl as derivations
 
 place_eq-Decides : (a b : Place) → Decides (places.ghosts.eq a b) (a ≡ b)
 place_eq-Decides a b = search rules
@@ -37,5 +41,8 @@ line_Decides : (fact rule block : Bool) (a b : Line) → Decides fact (a.fact �
     → Decides (fact && (rule && (a.first == b.first && (a.count == b.count && block)))) (a ≡ b)
 line_Decides fact rule block a b facts_are rules_are blocks_are = search rules
 
-pub line_eq-Decides : (a b : Line) → Decides (lines.ghosts.eq a b) (a ≡ b)
+line_eq-Decides : (a b : Line) → Decides (lines.ghosts.eq a b) (a ≡ b)
 line_eq-Decides a b = line_Decides _ _ _ a b (fact_eq-Decides a.fact b.fact) (rule_eq-Decides a.rule b.rule) (search rules)
+
+pub derivation_eq-Decides : (a b : Derivation) → Decides (derivations.ghosts.eq a b) ((a.lines.items ≡ b.lines.items) × (a.hints.items ≡ b.hints.items))
+derivation_eq-Decides a b = search (rules, pointwise_decides line_eq-Decides a.lines.items b.lines.items, pointwise_decides unsigned_Decides a.hints.items b.hints.items)
