@@ -18,7 +18,7 @@ use crate::opening::{Cell, declarations};
 use scm_book::{Book, Call, Reply};
 use scm_cells::Name;
 use scm_sequences::{LONGEST_LINE, NoMemory, Refusal};
-use scm_sessions::{Answer, Port, Sessions, write_reply};
+use scm_sessions::{Answer, MakeCalls, Port, Sessions, answer_line, write_reply};
 use std::alloc::Global;
 
 /// The sessions and their book, and the last answer, with its text where `fetch` wrote it.
@@ -63,7 +63,7 @@ impl State {
         ensures names { self.new.names ≡ self.old.names }
         ensures answer { AnswersWith AnswersCall self.old.sessions (asked_by (line_of line.now)) self.new.answer self.new.sessions }
     {
-        self.answer = self.sessions.answer(self.alloc, cut(line));
+        self.answer = answer_line(self.alloc, &mut self.sessions, cut(line));
     }
 
     /// Writes the text of the last answer. Where memory is refused it can be fetched later.
@@ -121,7 +121,7 @@ impl State {
     fn make(&mut self, session: Name, call: Call) -> u32
         ensures { MakesCall self.old session (call_data call) result self.new }
     {
-        let reply = self.sessions.call_of(session, call);
+        let reply = self.sessions.call(session, call);
         self.keep(session, reply)
     }
 

@@ -12,7 +12,7 @@ use scm_sequences::Refusal;
 use std::alloc::Global;
 
 /// Sessions that make calls, each known by its name.
-pub(crate) trait MakeCalls {
+pub trait MakeCalls {
     ghost use Rattle.std.specs.Prelude.{ℕ, List};
     ghost use Rattle.scm_book.specs.Calls.{CallData, ReplyData, call_data, reply_data};
     ghost use Rattle.scm_sessions.specs.Asking.{good};
@@ -43,7 +43,7 @@ fn answer_asked<S: MakeCalls>(sessions: &mut S, asked: Asked) -> Option<Answer>
 }
 
 /// The answer to a line, where it has one; `None` stands for a line that is too long.
-pub(crate) fn answer_line<S: MakeCalls>(
+pub fn answer_line<S: MakeCalls>(
     alloc: Global,
     sessions: &mut S,
     line: Option<&[u8]>,

@@ -26,6 +26,7 @@ mod shared_sessions;
 mod with_workers;
 mod words;
 
+pub use answers::{MakeCalls, answer_line};
 pub use calls::read_line;
 pub use each::run_each;
 pub use ended::Ended;

@@ -1,17 +1,11 @@
 //! The state of a script run: the names of the sessions, and the book.
-ghost use Rattle.std.specs.Prelude.{◌≡◌, ◌⊎◌, ◌≤◌, [], vec_capacity, true, false, option_copied, IfOk, IfErr, OnErr};
+ghost use Rattle.std.specs.Prelude.{◌≡◌, ◌⊎◌, ◌≤◌, [], vec_capacity, true, false, IfOk, IfErr, OnErr};
 ghost use Rattle.scm_sequences.specs.declared.refusal.Refusal.TheVariants.{NoMemory, TooManySessions};
 ghost use Rattle.scm_sequences.specs.declared.limits.TheConstants.{MOST_SESSIONS};
 ghost use Rattle.scm_book.specs.Journal.{IsLegalBook};
-ghost use Rattle.scm_book.specs.Calls.{call_data, reply_data};
-ghost use Rattle.scm_sessions.specs.Lines.{line_given};
-ghost use Rattle.scm_sessions.specs.Asking.{asked_by, good};
-ghost use Rattle.scm_sessions.specs.Exchanges.{Answers};
-ghost use Rattle.scm_sessions.specs.Answering.{AnswersWith};
-ghost use Rattle.scm_sessions.specs.Script.{script_state, session_of, with_name, is_turned_away, AnswersCall};
+ghost use Rattle.scm_sessions.specs.Script.{script_state, session_of, with_name, is_turned_away};
 
-use crate::answers::{MakeCalls, answer_line};
-use crate::replies::Answer;
+use crate::answers::MakeCalls;
 use indexmap::IndexSet;
 use scm_book::{Book, Call, Reply};
 use scm_cells::Name;
@@ -86,22 +80,6 @@ impl Sessions {
         let Sessions { names, book } = self;
         room.extend_from_slice(names.as_slice()).unwrap();
         (book, room)
-    }
-}
-
-impl Sessions {
-    /// Answers a line; `None` stands for one that is too long. The answer, where the line has one.
-    pub fn answer(&mut self, alloc: Global, line: Option<&[u8]>) -> Option<Answer>
-        ensures { AnswersWith AnswersCall self.old (asked_by (line_given (option_copied line.entry))) result self.new }
-    {
-        answer_line(alloc, self, line)
-    }
-
-    /// Makes a call of the session of this name, which enters where it is new.
-    pub fn call_of(&mut self, name: Name, call: Call) -> Reply
-        ensures { Answers AnswersCall self.old (good name (call_data call)) (reply_data result) self.new }
-    {
-        self.call(name, call)
     }
 }
 

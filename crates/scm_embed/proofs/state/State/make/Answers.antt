@@ -3,4 +3,4 @@ use Rattle.scm_embed.proofs.state.State.make.Goals as goal
 
 pub returns : goal.returns
 returns c =
-    (reply_data c.call_of-reply.result, rw (c.keep.ensures.sessions) c.call_of-reply.ensures, c.keep.ensures.answer, c.keep.ensures.code, c.keep.ensures.names)
+    (reply_data c.call-reply.result, rw (c.keep.ensures.sessions) c.call-reply.ensures, c.keep.ensures.answer, c.keep.ensures.code, c.keep.ensures.names)
