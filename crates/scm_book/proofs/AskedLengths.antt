@@ -45,7 +45,7 @@ IsWithin-asked state None lengths sound is = subst (λ l. IsWithin l (lengths_of
 IsWithin-asked state (Some m) lengths sound is = IsWithin-mark state m lengths sound is
 
 -- what holds of the trace cut to them holds of the trace that the question is about
-about_asked : (state : TraceState) (mark : Option ℕ) (P : Trace → Type 0) (lengths : List ℕ) → asked_lengths state mark ≡ Ok lengths → P (cut_to (trace_in state) lengths) → IsAbout state mark P
+pub about_asked : (state : TraceState) (mark : Option ℕ) (P : Trace → Type 0) (lengths : List ℕ) → asked_lengths state mark ≡ Ok lengths → P (cut_to (trace_in state) lengths) → IsAbout state mark P
 about_asked state None P lengths is h = subst P (cut_to-whole (trace_in state)) (subst (λ l. P (cut_to (trace_in state) l)) (sym (present_as state lengths is)) h)
 about_asked state (Some m) P lengths is h = subst (λ r. IsOkAnd r (λ l. P (cut_to (trace_in state) l))) (sym is) h
 

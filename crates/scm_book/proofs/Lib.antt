@@ -17,4 +17,5 @@ mod FixedValues
 pub mod CopyLaws
 pub mod Searching
 pub mod LendingLaws
+mod Planning
 pub mod KnownSchedulesLaws

@@ -15,6 +15,7 @@ pub mod Callers
 pub mod JournalState
 pub mod Workers
 pub mod Loans
+pub mod Plans
 pub mod Events
 pub use Rattle.scm_sequences.specs.Fronts
 pub use Rattle.scm_sequences.specs.Traces

@@ -1,5 +1,6 @@
 //! The book of open traces.
 ghost use Rattle.std.specs.Prelude.{◌≡◌, ◌≢◌, ◌↔◌, ◌+◌, ◌-◌, [], false, map, None, Some, true, is_ok, IsTrue, IfOk, IfSome, IsSomeAnd, MatchResult};
+ghost use Rattle.std.specs.Option.{option_map};
 ghost use Rattle.scm_book.specs.Calls.{call_data, reply_data, entry_data, opens, claims, releases, reports, sets_mark, goes_back, raises, asks, asks_why, asks_cycle, shows, lists, closes, refused};
 ghost use Rattle.scm_sequences.specs.declared.refusal.Refusal.TheVariants.{BadLine, TooManySessions};
 ghost use Rattle.scm_book.specs.Machine.{empty_machine};
@@ -7,13 +8,14 @@ ghost use Rattle.scm_book.specs.Sets.{HasRoom, HasRoomFor, HoldsFor, LeavesSets,
 ghost use Rattle.scm_results.specs.Totals.{capped, none_counted};
 ghost use Rattle.scm_book.specs.Workers.{IsTaking, IsDelivery, OffersNothingNew};
 ghost use Rattle.scm_book.specs.Loans.{IsLending, IsLendingForWork, IsTakingBack};
+ghost use Rattle.scm_book.specs.Plans.{IsKnown, known_in, loan_in};
 ghost use Rattle.scm_book.specs.Changes.{tells_of_change};
 ghost use Rattle.scm_book.specs.Journal.{count_of as count_in, GivesCopies, IsCall, IsLegalBook};
 
 use crate::journal::Journal;
 use crate::loan::Loan;
 use crate::traces::Traces;
-use crate::{Call, Decl, Entry, Reply};
+use crate::{Call, Decl, Entry, Plan, Reply};
 use scm_cells::Name;
 use scm_expand::{Outcome, Task};
 use scm_frontier::Steps;
@@ -145,16 +147,19 @@ impl Book {
         delivered
     }
 
-    /// The question that a call asks, to be searched with no book at hand, with the set that is kept for its trace; the start
-    /// alone stays in its place. `None`, with everything as it was, where the call isn't a question, its trace or mark isn't
-    /// there, its answer is likely to be near, or memory is refused. Neither machine nor journal changes.
-    pub fn lend(&mut self, call: &Call) -> Option<Loan>
-        ensures lends { IsLending self.old (call_data call.now) result self.new }
+    /// What is to be done before a call is made. Known schedules of what a question is about are judged here, once: a legal
+    /// one is the reply, to be handed to `call_kept` before anything changes. Else a question waits while its set is lent for
+    /// work. Else, where its answer isn't likely to be near, it is lent, to be searched with no book at hand, with the set that
+    /// is kept for its trace; the start alone stays in its place. With no loan everything is as it was, also where memory is
+    /// refused. Neither machine nor journal changes.
+    pub fn plan(&mut self, call: &Call) -> Plan
+        ensures lends { IsLending self.old (call_data call.now) (loan_in result) self.new }
+        ensures known { IsKnown self.new.machine (call_data call.now) (known_in result) }
         ensures legal { IsLegalBook self.new }
     {
         match call {
-            Call::Ask { name, mark } | Call::Why { name, mark } => self.traces.lend(name, *mark),
-            _ => None,
+            Call::Ask { name, mark } | Call::Why { name, mark } => self.traces.plan(name, *mark),
+            _ => Plan::Ready(None),
         }
     }
 
@@ -173,17 +178,6 @@ impl Book {
     /// left. Nothing rests on it.
     pub fn may_want_work(&self) -> bool {
         self.traces.may_want_work()
-    }
-
-    /// Whether the call is a question that would search a set which is lent for work, and so does well to wait until it was
-    /// taken back. Nothing rests on it.
-    pub fn awaits_set(&self, call: &Call) -> bool {
-        match call {
-            Call::Ask { name, mark } | Call::Why { name, mark } => {
-                self.traces.awaits_set(name, *mark)
-            }
-            _ => false,
-        }
     }
 
     /// Takes a question back that was lent, whatever happened since. Where its trace is there, what it found out is kept as
@@ -214,14 +208,21 @@ impl Book {
         ensures legal { IsLegalBook self.new }
     {
         let mut steps = self.traces.new_counter(&call);
-        let (reply, copies) = self.make(session, call, None, &mut steps);
+        let (reply, copies) = self.make(session, call, None, None, &mut steps);
         drop(copies);
         reply
     }
 
     /// Makes a call of a session, and gives copies of call and reply too where they made an entry. The copies are made
     /// before anything changes, but for what a question finds out; where there is no memory for them, the call is refused.
-    pub fn call_kept(&mut self, session: u16, call: Call) -> (Reply, Option<(Call, Reply)>)
+    /// Where its plan carries a reply, that is the answer.
+    pub fn call_kept(
+        &mut self,
+        session: u16,
+        call: Call,
+        known: Option<Reply>,
+    ) -> (Reply, Option<(Call, Reply)>)
+        requires { IsKnown self.old.machine (call_data call) (option_map reply_data known) }
         ensures called { IsCall self.old session (call_data call) (reply_data result.0) self.new }
         ensures kept { GivesCopies (call_data call) result.0 result.1 }
         ensures machine { tells_of_change (reply_data result.0) ≡ false → self.new.machine ≡ self.old.machine }
@@ -230,27 +231,31 @@ impl Book {
         ensures legal { IsLegalBook self.new }
     {
         if self.journal.is_full() {
+            drop(known);
             drop(call);
             return (Reply::Refused(Refusal::JournalFull), None);
         }
         let Ok(copy) = call.copy() else {
+            drop(known);
             drop(call);
             return (Reply::Refused(Refusal::NoMemory), None);
         };
         let mut steps = self.traces.new_counter(&call);
-        self.make(session, call, Some(copy), &mut steps)
+        self.make(session, call, known, Some(copy), &mut steps)
     }
 
-    /// Makes a call of a session, and counts the steps of a question. A copy of the call that is handed in comes back with
-    /// one of the reply, where they made an entry.
+    /// Makes a call of a session, unless its reply is known, and counts the steps of a question. A copy of the call that is
+    /// handed in comes back with one of the reply, where they made an entry.
     fn make(
         &mut self,
         session: u16,
         call: Call,
+        known: Option<Reply>,
         copy: Option<Call>,
         steps: &mut Steps,
     ) -> (Reply, Option<(Call, Reply)>)
         requires room { HasRoom self.old.machine (call_data call) steps.old }
+        requires known { IsKnown self.old.machine (call_data call) (option_map reply_data known) }
         ensures called { IsCall self.old session (call_data call) (reply_data result.0) self.new }
         ensures kept { IfSome copy (λ copied. GivesCopies (call_data copied) result.0 result.1) }
         ensures machine { tells_of_change (reply_data result.0) ≡ false → self.new.machine ≡ self.old.machine }
@@ -265,7 +270,7 @@ impl Book {
             return (Reply::Refused(Refusal::NoMemory), None);
         }
         let before = steps.made();
-        let reply = self.traces.call(session, &call, steps);
+        let reply = self.traces.call(session, &call, known, steps);
         self.steps = self.steps.saturating_add(steps.made() - before);
         if !reply.makes_entry() {
             return (reply, None);
@@ -378,7 +383,7 @@ impl Book {
         ensures counted { self.new.steps ≡ capped (self.old.steps + (steps.new - steps.old)) }
         ensures legal { IsLegalBook self.new }
     {
-        let (reply, copies) = self.make(session, Call::Ask { name, mark }, None, steps);
+        let (reply, copies) = self.make(session, Call::Ask { name, mark }, None, None, steps);
         drop(copies);
         reply
     }
@@ -391,7 +396,7 @@ impl Book {
         ensures counted { self.new.steps ≡ capped (self.old.steps + (steps.new - steps.old)) }
         ensures legal { IsLegalBook self.new }
     {
-        let (reply, copies) = self.make(session, Call::Why { name, mark }, None, steps);
+        let (reply, copies) = self.make(session, Call::Why { name, mark }, None, None, steps);
         drop(copies);
         reply
     }

@@ -20,7 +20,7 @@ pub enum Event {
     Take(usize),
     /// Outcomes are delivered.
     Deliver(Vec<Outcome>),
-    /// The question that a call asks is lent, and dropped.
+    /// The question that a call asks is lent, where its plan says so, and dropped.
     Lend(Call),
     /// A set is lent for work, and dropped.
     LendWork,
@@ -44,7 +44,7 @@ fn answer(book: &mut Book, event: Event) -> Option<Reply>
             None
         }
         Event::Lend(call) => {
-            let _dropped = book.lend(&call);
+            let _dropped = book.plan(&call);
             None
         }
         Event::LendWork => {

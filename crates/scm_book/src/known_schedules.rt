@@ -19,6 +19,8 @@ pub(crate) struct KnownSchedules {
     failed: Option<u64>,
     /// At how many operations no schedule was found where all of the budget might have been spent on one, at last.
     failed_whole: Option<u64>,
+    /// At how many operations neither the schedule nor the order of the reports is legal, which were judged then.
+    illegal: Option<u64>,
     /// How often the trace was cut.
     cuts: u64,
 }
@@ -36,6 +38,7 @@ impl KnownSchedules {
             reported: Some(Vec::new(alloc)),
             failed: None,
             failed_whole: None,
+            illegal: None,
             cuts: 0,
         }
     }
@@ -52,6 +55,7 @@ impl KnownSchedules {
             reported,
             failed: self.failed,
             failed_whole: self.failed_whole,
+            illegal: self.illegal,
             cuts: self.cuts,
         })
     }
@@ -97,6 +101,21 @@ impl KnownSchedules {
         self.failed == Some(operations_in(lengths))
     }
 
+    /// Whether neither of them is legal at these lengths, as far as they were judged.
+    pub(crate) fn are_illegal(&self, lengths: &Lengths) -> bool {
+        self.illegal == Some(operations_in(lengths))
+    }
+
+    /// They were judged at these lengths: what comes of the reply of a legal one, or that neither is.
+    pub(crate) fn learn_known(&mut self, known: Option<&Reply>, lengths: &Lengths)
+        ensures { length self.new.schedule.items ≤ max (length self.old.schedule.items) (sum lengths.now) }
+    {
+        match known {
+            Some(reply) => self.learn(reply, lengths),
+            None => self.illegal = Some(operations_in(lengths)),
+        }
+    }
+
     /// What comes of the reply to a question about the trace cut to these lengths.
     pub(crate) fn learn(&mut self, reply: &Reply, lengths: &Lengths)
         ensures { length self.new.schedule.items ≤ max (length self.old.schedule.items) (sum lengths.now) }
@@ -136,6 +155,7 @@ impl KnownSchedules {
         }
         if let Ok(copy) = Vec::from_slice(*self.schedule.allocator(), schedule) {
             self.schedule = copy;
+            self.illegal = None;
             self.retry();
         }
     }
@@ -153,18 +173,21 @@ impl KnownSchedules {
         self.cuts = self.cuts.saturating_add(1);
         self.failed = None;
         self.failed_whole = None;
+        self.illegal = None;
     }
 
     /// Takes the schedule of another one, which began as a copy of this one, where it isn't shorter, as far as the trace has
-    /// as many operations; and where nothing changed since, what failed.
+    /// as many operations; and where nothing changed since, what failed or was illegal.
     pub(crate) fn take_back(&mut self, other: &mut KnownSchedules, present: &Lengths, is_same: bool)
         ensures { length self.new.schedule.items ≤ max (length self.old.schedule.items) (sum present.now) }
     {
+        let is_unchanged = is_same && other.cuts == self.cuts;
         other.schedule.truncate(operations_in(present) as usize);
         if other.schedule.len() >= self.schedule.len() {
             mem::swap(&mut self.schedule, &mut other.schedule);
+            self.illegal = if is_unchanged { other.illegal } else { None };
         }
-        if is_same && other.cuts == self.cuts {
+        if is_unchanged {
             self.failed = other.failed;
             self.failed_whole = other.failed_whole;
         }

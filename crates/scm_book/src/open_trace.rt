@@ -14,6 +14,7 @@ ghost use Rattle.scm_book.specs.Showing.{shown_operations};
 mod asking;
 mod lending;
 mod loan_state;
+mod planning;
 mod refuting;
 mod working;
 
@@ -27,6 +28,7 @@ use scm_budget::Budget;
 use scm_cells::Cells;
 use scm_lowering::{Access, lower};
 use scm_marks::Marks;
+use scm_proposals::Beginning;
 use scm_reach::Reach;
 use scm_sequences::{MOST_PROCESSES, NoMemory, Refusal, Sequences};
 use smallvec::SmallVec;
@@ -46,6 +48,8 @@ pub(crate) struct OpenTrace {
     reach: Reach,
     // So do the last schedule, which is no longer than the trace, and the order of the reports, for their proposals.
     earlier: KnownSchedules,
+    // How far the order of the reports was found to be a schedule when the trace was looked at for work last.
+    followed: Option<Beginning>,
     // What workers have to know of it.
     loan_state: LoanState,
 }
@@ -112,6 +116,7 @@ impl OpenTrace {
             marks: Marks::new(alloc),
             reach,
             earlier: KnownSchedules::new(alloc),
+            followed: None,
             loan_state: LoanState::new(),
         })
     }
@@ -217,6 +222,7 @@ impl OpenTrace {
         self.reach.cut(&self.sequences, lengths);
         self.sequences.cut(lengths);
         self.earlier.cut(lengths);
+        self.followed = None;
         self.loan_state.change();
         self.marks.back(mark);
         Ok(())

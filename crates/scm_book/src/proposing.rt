@@ -1,5 +1,5 @@
 //! Schedules that are proposed and judged.
-ghost use Rattle.std.specs.Prelude.{◌≡◌, ◌≤◌, length, reverse, IfSome};
+ghost use Rattle.std.specs.Prelude.{◌≡◌, ◌≤◌, length, reverse, IfSome, IsTrue};
 ghost use Rattle.scm_sequences.specs.declared.limits.TheConstants.{MOST_CELLS};
 ghost use Rattle.scm_sequences.specs.Lengths.{IsWithin};
 ghost use Rattle.scm_sequences.specs.Ops.{NamesCellsBelow};
@@ -8,6 +8,7 @@ ghost use Rattle.scm_sequences.specs.Traces.{trace_of, cut_to};
 ghost use Rattle.scm_sequences.specs.Fronts.{IsSchedule};
 ghost use Rattle.scm_book.specs.Loans.{CanJudge};
 
+use crate::copying::copy_of_schedule;
 use crate::known_schedules::KnownSchedules;
 use crate::open_trace::Purpose;
 use scm_frontier::Situation;
@@ -66,16 +67,6 @@ impl Proposing<'_> {
         reach.holds_whole(self.sequences, self.lengths) || !reach.is_open(self.sequences)
     }
 
-    /// The longest schedule that was found, where it has every operation.
-    fn as_before(&self) -> Option<Vec<u8>> {
-        Vec::from_slice(self.alloc, self.earlier.whole_schedule(self.lengths)?).ok()
-    }
-
-    /// The order in which the operations were reported, which is a schedule where it is that of their happening.
-    fn as_reported(&self) -> Option<Vec<u8>> {
-        Vec::from_slice(self.alloc, self.earlier.reported(self.lengths)?).ok()
-    }
-
     /// What the heuristic proposes.
     fn proposed(&self, reach: &Reach) -> Option<Vec<u8>> {
         let earlier = self.earlier.schedule();
@@ -103,27 +94,39 @@ impl Proposing<'_> {
         }
     }
 
-    /// This proposal, where it is legal.
-    fn judged(&self, reach: &Reach, proposal: Option<Vec<u8>>) -> Option<Vec<u8>>
+    /// Whether this proposal is a legal schedule.
+    fn fits(&self, reach: &Reach, proposal: &[u8]) -> bool
         requires { CanJudge self.now.sequences.now self.now.lengths.now reach.now.initials }
-        ensures { IfSome result (λ schedule. IsSchedule (cut_to (trace_of reach.now.initials self.now.sequences.now) self.now.lengths.now) (reverse schedule.items)) }
+        ensures { IsTrue result → IsSchedule (cut_to (trace_of reach.now.initials self.now.sequences.now) self.now.lengths.now) (reverse proposal.now) }
+    {
+        is_legal(reach.initials(), self.sequences, self.lengths, proposal)
+    }
+
+    /// This proposal, where it is legal.
+    fn judged<'s>(&self, reach: &Reach, proposal: Option<&'s [u8]>) -> Option<&'s [u8]>
+        requires { CanJudge self.now.sequences.now self.now.lengths.now reach.now.initials }
+        ensures { IfSome result (λ schedule. IsSchedule (cut_to (trace_of reach.now.initials self.now.sequences.now) self.now.lengths.now) (reverse schedule.now)) }
     {
         let schedule = proposal?;
-        if is_legal(reach.initials(), self.sequences, self.lengths, &schedule) {
+        if self.fits(reach, schedule) {
             Some(schedule)
         } else {
             None
         }
     }
 
-    /// The schedule that was found before, or that of the reports, where it is legal.
-    fn known(&self, reach: &Reach) -> Option<Vec<u8>>
+    /// The longest schedule that was found, where it has every operation, or else the order of the reports, which is that of
+    /// their happening at best: where it is legal. It takes no memory.
+    pub(crate) fn known(&self, reach: &Reach) -> Option<&[u8]>
         requires { CanJudge self.now.sequences.now self.now.lengths.now reach.now.initials }
-        ensures { IfSome result (λ schedule. IsSchedule (cut_to (trace_of reach.now.initials self.now.sequences.now) self.now.lengths.now) (reverse schedule.items)) }
+        ensures { IfSome result (λ schedule. IsSchedule (cut_to (trace_of reach.now.initials self.now.sequences.now) self.now.lengths.now) (reverse schedule.now)) }
     {
-        match self.judged(reach, self.as_before()) {
+        if self.earlier.are_illegal(self.lengths) {
+            return None;
+        }
+        match self.judged(reach, self.earlier.whole_schedule(self.lengths)) {
             Some(schedule) => Some(schedule),
-            None => self.judged(reach, self.as_reported()),
+            None => self.judged(reach, self.earlier.reported(self.lengths)),
         }
     }
 
@@ -134,7 +137,7 @@ impl Proposing<'_> {
         ensures { IfSome result (λ schedule. IsSchedule (cut_to (trace_of reach.now.initials self.now.sequences.now) self.now.lengths.now) (reverse schedule.items)) }
     {
         if let Some(schedule) = self.known(reach) {
-            return Some(schedule);
+            return copy_of_schedule(self.alloc, schedule).ok();
         }
         if self.earlier.has_failed(self.lengths) || self.is_settled(reach) {
             return None;
@@ -142,11 +145,16 @@ impl Proposing<'_> {
         if self.is_search_short(reach)? {
             return None;
         }
-        self.judged(reach, self.proposed(reach))
+        let schedule = self.proposed(reach)?;
+        if self.fits(reach, &schedule) {
+            Some(schedule)
+        } else {
+            None
+        }
     }
 
-    /// Whether the question is likely to take long: there may be many situations, the set is neither full nor near to the
-    /// answer, no schedule is known, and the set hasn't the answer. Nothing rests on it. What goes over the set comes last.
+    /// Whether the question, to which no schedule is known, is likely to take long: there may be many situations, the set is
+    /// neither full nor near to the answer, and hasn't it. Nothing rests on it. What goes over the set comes last.
     pub(crate) fn is_long(&self, reach: &Reach) -> bool
         requires { CanJudge self.now.sequences.now self.now.lengths.now reach.now.initials }
     {
@@ -156,21 +164,14 @@ impl Proposing<'_> {
         if self.is_search_short(reach).unwrap_or(true) {
             return false;
         }
-        !self.is_explained(reach) && !self.is_settled(reach)
-    }
-
-    /// Whether a schedule is known.
-    pub(crate) fn is_explained(&self, reach: &Reach) -> bool
-        requires { CanJudge self.now.sequences.now self.now.lengths.now reach.now.initials }
-    {
-        self.known(reach).is_some()
+        !self.is_settled(reach)
     }
 
     /// Whether a question about the trace would search: the set has room and hasn't the answer, and no schedule is known.
     pub(crate) fn wants_work(&self, reach: &Reach) -> bool
         requires { CanJudge self.now.sequences.now self.now.lengths.now reach.now.initials }
     {
-        reach.held() < self.limit && !self.is_explained(reach) && !self.is_settled(reach)
+        reach.held() < self.limit && self.known(reach).is_none() && !self.is_settled(reach)
     }
 }
 

@@ -1,10 +1,12 @@
 //! The open traces: the machine that a book stands for.
 ghost use Rattle.std.specs.Prelude.{◌≡◌, ◌↔◌, [], IfOk, IfErr, IsTrue};
 ghost use Rattle.std.specs.Map.{remove_entry};
+ghost use Rattle.std.specs.Option.{option_map};
 ghost use Rattle.indexmap.specs.IndexMap.{insert_entry};
 ghost use Rattle.scm_cells.specs.Names.{name_eq};
 ghost use Rattle.scm_book.specs.Calls.{call_data, reply_data, opens, claims, releases, reports, sets_mark, goes_back, raises, asks, asks_why, asks_cycle, shows, lists, closes};
 ghost use Rattle.scm_book.specs.Machine.{trace_names};
+ghost use Rattle.scm_book.specs.Plans.{IsKnown};
 ghost use Rattle.scm_book.specs.Refusals.{place_cause};
 ghost use Rattle.scm_book.specs.Sets.{machine_in, sets_in, HasRoom, HasRoomFor, HoldsFor, IfDone, HasNewSet, CutsSet, SearchesSet, LeavesSets};
 ghost use Rattle.scm_book.specs.Steps.{IsStepOrNoMemory};
@@ -289,8 +291,26 @@ impl Traces {
         steps
     }
 
-    /// Makes a call of a session.
-    pub(crate) fn call(&mut self, session: u16, call: &Call, steps: &mut Steps) -> Reply
+    /// Makes a call of a session, unless its reply is known.
+    pub(crate) fn call(
+        &mut self,
+        session: u16,
+        call: &Call,
+        known: Option<Reply>,
+        steps: &mut Steps,
+    ) -> Reply
+        requires room { HasRoom (machine_in self.old) (call_data call.now) steps.old }
+        requires known { IsKnown (machine_in self.old) (call_data call.now) (option_map reply_data known) }
+        ensures step { IsStepOrNoMemory (machine_in self.old) session (call_data call.now) (reply_data result) (machine_in self.new) }
+        ensures sets { LeavesSets (machine_in self.old) (sets_in self.old) (call_data call.now) (reply_data result) steps.old steps.new (sets_in self.new) }
+    {
+        match known {
+            Some(reply) => reply,
+            None => self.make(session, call, steps),
+        }
+    }
+
+    fn make(&mut self, session: u16, call: &Call, steps: &mut Steps) -> Reply
         requires room { HasRoom (machine_in self.old) (call_data call.now) steps.old }
         ensures step { IsStepOrNoMemory (machine_in self.old) session (call_data call.now) (reply_data result) (machine_in self.new) }
         ensures sets { LeavesSets (machine_in self.old) (sets_in self.old) (call_data call.now) (reply_data result) steps.old steps.new (sets_in self.new) }

@@ -1,19 +1,18 @@
-//! The beginning of an earlier schedule, made again.
+//! The beginning of a schedule, made operation by operation.
 use scm_sequences::{Lengths, Op, Sequences};
 use std::alloc::Global;
 
 /// What the first places of a schedule make: how many operations of each process, and what the cells hold then.
 #[derive(Drop)]
-pub(crate) struct Beginning {
+pub struct Beginning {
     pub(crate) counts: Vec<u32>,
     pub(crate) contents: Vec<Option<u64>>,
-    /// How many places were made.
-    pub(crate) len: usize,
+    len: usize,
 }
 
 impl Beginning {
-    /// Before any operation.
-    pub(crate) fn new(alloc: Global, initials: &[Option<u64>], procs: usize) -> Option<Beginning> {
+    /// Before any operation, where the cells hold this (`None` is an open cell). `None` where memory is refused.
+    pub fn new(alloc: Global, initials: &[Option<u64>], procs: usize) -> Option<Beginning> {
         let mut contents = Vec::new(alloc);
         for initial in initials {
             contents.push(*initial).ok()?;
@@ -26,7 +25,7 @@ impl Beginning {
     }
 
     /// Makes the operations at these places as long as each is there, within the lengths, and legal.
-    pub(crate) fn follow(&mut self, sequences: &Sequences, lengths: &Lengths, places: &[u8]) {
+    pub fn follow(&mut self, sequences: &Sequences, lengths: &Lengths, places: &[u8]) {
         for place in places {
             if self.make(sequences, lengths, usize::from(*place)).is_none() {
                 break;
@@ -43,13 +42,18 @@ impl Beginning {
         make(&mut self.counts, &mut self.contents, p, op)
     }
 
+    /// How many operations were made.
+    pub fn made(&self) -> usize {
+        self.len
+    }
+
     /// How many places stay where so many are dropped from the end.
     pub(crate) fn len_without(&self, tail: usize) -> usize {
         self.len.saturating_sub(tail)
     }
 
     /// How many operations within the lengths are left.
-    pub(crate) fn left(&self, lengths: &Lengths) -> usize {
+    pub fn left(&self, lengths: &Lengths) -> usize {
         let mut left: usize = 0;
         for p in 0..lengths.procs() {
             left = left.saturating_add(lengths.get(p) as usize);

@@ -18,5 +18,6 @@ mod sources;
 mod walk;
 mod windows;
 
+pub use beginning::Beginning;
 pub use ending::is_near_end;
 pub use proposal::propose;

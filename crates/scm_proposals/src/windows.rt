@@ -55,10 +55,10 @@ impl Progress {
 
     // Keeps these places as far as they are legal. Whether there are any.
     fn keep(&mut self, proposer: &Proposer, places: &[u8]) -> Option<bool> {
-        let before = self.beginning.len;
+        let before = self.beginning.made();
         self.beginning
             .follow(proposer.sequences, proposer.lengths, places);
-        let made = self.beginning.len.saturating_sub(before);
+        let made = self.beginning.made().saturating_sub(before);
         for place in places.get(..made)? {
             self.schedule.push(*place).ok()?;
         }

@@ -168,7 +168,7 @@ impl<B: BookNaming> Locked<B> {
             mut seat,
             totals,
             mut made,
-            rest: mut all,
+            unissued: mut all,
         } = self;
         let agreed = agree(&passes, book.entries());
         for pass in passes {

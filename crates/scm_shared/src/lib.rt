@@ -2,18 +2,17 @@
 #![tactic(auto)]
 
 mod audit;
+mod callers;
 mod comparing;
 mod length_word;
 mod locked;
 mod naming;
 mod pass;
-mod rest;
 mod shared_book;
 mod token;
 mod word;
 
 pub use audit::Audit;
-pub use comparing::same_reply;
 pub use naming::{BookNaming, Made};
 pub use pass::Pass;
 pub use shared_book::SharedBook;

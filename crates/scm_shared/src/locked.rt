@@ -8,6 +8,7 @@ ghost use Rattle.scm_results.specs.Tallies.{nothing, nothing_counted};
 ghost use Rattle.scm_book.specs.Calls.{call_data, reply_data, refused};
 ghost use Rattle.scm_book.specs.Journal.{makes_entry, IsUnchanged};
 ghost use Rattle.scm_book.specs.Loans.{IsLending, IsLendingForWork, IsTakingBack};
+ghost use Rattle.scm_book.specs.Plans.{IsKnown};
 ghost use Rattle.scm_book.specs.Workers.{IsTaking, IsDelivery};
 ghost use Rattle.scm_shared.specs.Locking.{with_one_entered, KeepsCounts, IsLockedCall, IsSearchedCall};
 ghost use Rattle.scm_shared.specs.Passes.{newcomer, Extended, SeenFull};
@@ -17,7 +18,7 @@ use crate::length_word::LengthWord;
 use crate::word::View;
 use crate::{BookNaming, Made, Pass};
 use atomic_table::Seat;
-use scm_book::{Book, Call, Entry, Loan, Reply};
+use scm_book::{Book, Call, Entry, Loan, Plan, Reply};
 use scm_expand::{Outcome, Task};
 use scm_results::{Results, Tally, Token, Totals};
 use scm_sequences::{MOST_ENTRIES, MOST_SESSIONS, NoMemory, Refusal};
@@ -56,7 +57,8 @@ pub(crate) struct Locked<B: BookNaming> {
     pub(crate) seat: Seat<Entry, View>,
     pub(crate) totals: Totals<B>,
     pub(crate) made: ledger::Book<Made<B>>,
-    pub(crate) rest: Share<Made<B>>,
+    // What isn't issued yet: the shares of passes that are still to enter.
+    pub(crate) unissued: Share<Made<B>>,
 }
 
 impl<B: BookNaming> Model for Locked<B> {
@@ -74,8 +76,8 @@ impl<B: BookNaming> Model for Locked<B> {
         × IsKeeper d.seat.me d.book.journal d.entered
         × (d.entered ≤ MOST_SESSIONS)
         × (d.made.total ≡ length d.book.journal)
-        × (d.rest.parts + d.entered ≡ MOST_SESSIONS + 1)
-        × (d.rest.amount ≡ 0)
+        × (d.unissued.parts + d.entered ≡ MOST_SESSIONS + 1)
+        × (d.unissued.amount ≡ 0)
         × (B.seats ≡ MOST_SESSIONS + 1)
         × (d.totals.results ≡ d.book.results) };
 }
@@ -97,14 +99,14 @@ impl<B: BookNaming> Locked<B> {
         ensures totals { result.totals ≡ nothing }
         ensures journal { result.book.journal ≡ [] }
     {
-        let (made, rest) = made.open::<Made<B>>();
+        let (made, unissued) = made.open::<Made<B>>();
         Locked {
             book: Book::new(alloc),
             entered: 0,
             seat,
             totals: Totals::new(totals),
             made,
-            rest,
+            unissued,
         }
     }
 
@@ -128,18 +130,21 @@ impl<B: BookNaming> Locked<B> {
             kept: Vec::new(alloc),
             front: 0,
             badge,
-            share: self.rest.split_off(1, 0),
+            share: self.unissued.split_off(1, 0),
             of: PhantomData,
         })
     }
 
-    /// Makes a call of the pass's session. Where there is no room to keep it, the book isn't called.
+    /// Makes a call of the pass's session, to which the reply may be known. Where there is no room to keep it, the book isn't
+    /// called.
     pub(crate) fn call(
         &mut self,
         length_word: &LengthWord<B>,
         pass: &mut Pass<B>,
         call: Call,
+        known: Option<Reply>,
     ) -> Reply
+        requires { IsKnown self.old.book.machine (call_data call) (option_map reply_data known) }
         ensures made { makes_entry (reply_data result) ≡ true → Extended pass.old (call_data call) (reply_data result) pass.new }
         ensures full { reply_data result ≡ refused JournalFull → SeenFull pass.old pass.new }
         ensures refused { reply_data result ≡ refused WithoutMemory → pass.new ≡ pass.old }
@@ -152,7 +157,7 @@ impl<B: BookNaming> Locked<B> {
         if pass.kept.reserve(1).is_err() {
             return Reply::Refused(Refusal::NoMemory);
         }
-        let (reply, kept) = self.book.call_kept(pass.number, call);
+        let (reply, kept) = self.book.call_kept(pass.number, call, known);
         match kept {
             Some(kept) => {
                 let entries = self.book.entries();
@@ -173,26 +178,28 @@ impl<B: BookNaming> Locked<B> {
         reply
     }
 
-    /// Makes the call, unless it asks a question that is to be searched without the lock first: that is lent, with the call.
-    pub(crate) fn call_or_lend(
+    /// Makes the call where it is ready. Else it comes back: with its loan where it asks a question that is to be searched
+    /// without the lock first, with none where it has to wait for a set.
+    pub(crate) fn call_if_ready(
         &mut self,
         length_word: &LengthWord<B>,
         pass: &mut Pass<B>,
         call: Call,
-    ) -> Result<Reply, (Call, BookLoan<B>)>
+    ) -> Result<Reply, (Call, Option<BookLoan<B>>)>
         ensures made { IfOk result (λ reply. makes_entry (reply_data reply) ≡ true → Extended pass.old (call_data call) (reply_data reply) pass.new) }
         ensures full { IfOk result (λ reply. reply_data reply ≡ refused JournalFull → SeenFull pass.old pass.new) }
         ensures refused { IfOk result (λ reply. reply_data reply ≡ refused WithoutMemory → pass.new ≡ pass.old) }
         ensures good { IfOk result (λ reply. reply_data reply ≢ refused BadLine) }
         ensures sessions { IfOk result (λ reply. reply_data reply ≢ refused TooManySessions) }
         ensures called { IfOk result (λ reply. IsLockedCall self.old.book pass.old.number (call_data call) (reply_data reply) self.new.book) }
-        ensures lent { IfErr result (λ lent. (call_data lent.0 ≡ call_data call) × IsLending self.old.book (call_data call) (Some lent.1.question) self.new.book) }
+        ensures lent { IfErr result (λ lent. (call_data lent.0 ≡ call_data call) × IsLending self.old.book (call_data call) (option_map (λ loan. loan.question) lent.1) self.new.book) }
         ensures pass { IfErr result (λ _. pass.new ≡ pass.old) }
         ensures counts { KeepsCounts self.old self.new }
     {
-        match self.book.lend(&call) {
-            Some(question) => Err((call, BookLoan::new(question))),
-            None => Ok(self.call(length_word, pass, call)),
+        match self.book.plan(&call) {
+            Plan::Ready(known) => Ok(self.call(length_word, pass, call, known)),
+            Plan::Waits => Err((call, None)),
+            Plan::Long(question) => Err((call, Some(BookLoan::new(question)))),
         }
     }
 
@@ -213,7 +220,7 @@ impl<B: BookNaming> Locked<B> {
         ensures counts { KeepsCounts self.old self.new }
     {
         self.take_back(loan);
-        self.call(length_word, pass, call)
+        self.call(length_word, pass, call, None)
     }
 
     /// The set of a trace, lent for work.

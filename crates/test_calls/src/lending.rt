@@ -2,7 +2,7 @@
 
 use crate::deliveries::add_call;
 use crate::words::{ANNA, call_of, name, play, played, says};
-use scm_book::{Book, Event, Loan, Reply, run_events};
+use scm_book::{Book, Event, Loan, Plan, Reply, run_events};
 use scm_frontier::Steps;
 use std::alloc::Global;
 use std::process::Abort;
@@ -42,8 +42,9 @@ fn forbidden_in(rt: &impl Abort, alloc: Global, open: &str) -> Book {
 }
 
 fn searched(rt: &impl Abort, alloc: Global, book: &mut Book) -> Loan {
-    let lent = book.lend(&call_of(rt, alloc, "ask t"));
-    let mut loan = lent.expect(rt, "a question");
+    let Plan::Long(mut loan) = book.plan(&call_of(rt, alloc, "ask t")) else {
+        panic!(rt; "a question");
+    };
     loan.search();
     loan
 }
@@ -155,9 +156,9 @@ fn a_raised_budget_goes_on(rt: HostRuntime) {
     assert!(rt; 0 < spared && spared < steps);
 }
 
-fn assert_not_lent(rt: &impl Abort, alloc: Global, book: &mut Book, line: &str) {
-    let lent = book.lend(&call_of(rt, alloc, line));
-    assert!(rt; lent.is_none());
+fn assert_ready(rt: &impl Abort, alloc: Global, book: &mut Book, line: &str) {
+    let plan = book.plan(&call_of(rt, alloc, line));
+    assert!(rt; matches!(plan, Plan::Ready(None)));
 }
 
 #[test]
@@ -165,9 +166,38 @@ fn nothing_is_lent_where_the_answer_is_there(rt: HostRuntime) {
     let mut book = forbidden(&rt, rt.alloc());
     assert_searched(&rt, &mut book);
     for line in ["ask t", "list"] {
-        assert_not_lent(&rt, rt.alloc(), &mut book, line);
+        assert_ready(&rt, rt.alloc(), &mut book, line);
     }
     assert_held(&rt, &book, SITUATIONS);
+}
+
+/// A known schedule of t is carried by the plan of a question, and answers it with no step.
+fn assert_carried(rt: &impl Abort, alloc: Global, book: &mut Book) {
+    let ask = call_of(rt, alloc, "ask t");
+    let Plan::Ready(Some(known)) = book.plan(&ask) else {
+        panic!(rt; "a known schedule");
+    };
+    let (reply, kept) = book.call_kept(ANNA, ask, Some(known));
+    assert!(rt; says(&reply, "consistent") && kept.is_some() && book.steps() == 0);
+}
+
+#[test]
+fn a_known_schedule_is_carried(rt: HostRuntime) {
+    let mut book = played(&rt, rt.alloc(), OPEN);
+    report_stores(&rt, rt.alloc(), &mut book, 1);
+    assert_carried(&rt, rt.alloc(), &mut book);
+}
+
+/// Where no schedule was legal, as many operations in another order are judged anew.
+#[test]
+fn a_return_makes_schedules_legal(rt: HostRuntime) {
+    let mut book = forbidden_in(&rt, rt.alloc(), MARKED);
+    let loan = searched(&rt, rt.alloc(), &mut book);
+    book.take_back(loan);
+    play(&rt, rt.alloc(), &mut book, "back t 0");
+    report_stores(&rt, rt.alloc(), &mut book, 1);
+    play(&rt, rt.alloc(), &mut book, "do t 3 lw x 9");
+    assert_carried(&rt, rt.alloc(), &mut book);
 }
 
 fn add_event(rt: &impl Abort, events: &mut Vec<Event>, event: Event) {

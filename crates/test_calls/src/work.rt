@@ -4,7 +4,7 @@ use crate::lending::{
     FORBIDDEN, OPEN, SITUATIONS, assert_held, assert_spared, forbidden, report_stores,
 };
 use crate::words::{call_of, play, played};
-use scm_book::{Book, Loan};
+use scm_book::{Book, Loan, Plan};
 use std::alloc::Global;
 use std::process::Abort;
 
@@ -15,8 +15,16 @@ fn lent(rt: &impl Abort, book: &mut Book) -> Loan {
     book.lend_work().expect(rt, "a set")
 }
 
-fn awaits(rt: &impl Abort, alloc: Global, book: &Book, line: &str) -> bool {
-    book.awaits_set(&call_of(rt, alloc, line))
+/// Whether a question has to wait until its set is back. One that is lent instead comes back unsearched.
+fn awaits(rt: &impl Abort, alloc: Global, book: &mut Book, line: &str) -> bool {
+    match book.plan(&call_of(rt, alloc, line)) {
+        Plan::Waits => true,
+        Plan::Long(loan) => {
+            book.take_back(loan);
+            false
+        }
+        Plan::Ready(_) => false,
+    }
 }
 
 /// Whether a set is lent for work, which is lost then.
@@ -84,7 +92,7 @@ fn work_that_is_given_back_is_gone_on_with(rt: HostRuntime) {
 }
 
 /// Work may be wanted, and no question waits for a set.
-fn assert_wants_work(rt: &impl Abort, alloc: Global, book: &Book) {
+fn assert_wants_work(rt: &impl Abort, alloc: Global, book: &mut Book) {
     assert!(rt; book.may_want_work() && !awaits(rt, alloc, book, "ask t"));
 }
 
@@ -92,14 +100,14 @@ fn assert_wants_work(rt: &impl Abort, alloc: Global, book: &Book) {
 #[test]
 fn a_set_is_lent_once(rt: HostRuntime) {
     let mut book = forbidden(&rt, rt.alloc());
-    assert_wants_work(&rt, rt.alloc(), &book);
+    assert_wants_work(&rt, rt.alloc(), &mut book);
     let loan = lent(&rt, &mut book);
     assert!(rt; !lends(&mut book) && !book.may_want_work());
     play(&rt, rt.alloc(), &mut book, "do t 0 sw x 9");
     assert!(rt; !lends(&mut book) && !book.may_want_work());
-    assert!(rt; awaits(&rt, rt.alloc(), &book, "ask t"));
+    assert!(rt; awaits(&rt, rt.alloc(), &mut book, "ask t"));
     book.take_back(loan);
-    assert_wants_work(&rt, rt.alloc(), &book);
+    assert_wants_work(&rt, rt.alloc(), &mut book);
 }
 
 /// A set is lent, and lost. Then the question waits for it.
@@ -130,5 +138,5 @@ fn a_question_that_is_explained_awaits_nothing(rt: HostRuntime) {
     );
     play(&rt, rt.alloc(), &mut book, FORBIDDEN);
     lose(&rt, rt.alloc(), &mut book);
-    assert!(rt; !awaits(&rt, rt.alloc(), &book, "ask t 0"));
+    assert!(rt; !awaits(&rt, rt.alloc(), &mut book, "ask t 0"));
 }

@@ -15,6 +15,7 @@ use crate::known_schedules::KnownSchedules;
 use crate::loan::Loan;
 use crate::proposing::{Proposing, has_few_situations};
 use scm_cells::{Cells, Name};
+use scm_proposals::Beginning;
 use scm_reach::Reach;
 use scm_sequences::{Lengths, Sequences};
 use std::alloc::Global;
@@ -24,7 +25,7 @@ impl OpenTrace {
     /// The question about the present trace, or as it stood at a mark, to be searched elsewhere, with the set that is kept
     /// for the trace; the start alone stays here. `None`, with everything as it was, where the mark isn't there, the purpose
     /// doesn't want it, or memory is refused.
-    pub(crate) fn lend(
+    pub(super) fn lend(
         &mut self,
         alloc: Global,
         name: Name,
@@ -111,34 +112,27 @@ impl OpenTrace {
         ensures lends { MatchOption result (self.new.set ≡ self.old.set) (λ loan. Lends name None self.old.state self.old.set loan self.new.set) }
     {
         self.loan_state.look();
+        if matches!(self.follow_reports(alloc), Some(0)) {
+            return None;
+        }
         self.lend(alloc, name, None, Purpose::Work)
     }
 
-    /// Whether a question has to wait until the set is back: it is lent for work, and no schedule is known.
-    pub(crate) fn awaits_set(&self, alloc: Global, mark: Option<u64>) -> bool {
-        self.loan_state.is_at_work() && matches!(self.has_schedule(alloc, mark), Some(false))
-    }
-
-    /// Whether a schedule is known of what a question is about, where that is there.
-    fn has_schedule(&self, alloc: Global, mark: Option<u64>) -> Option<bool> {
-        let _held = self.reach.held();
-        let lengths = self.lengths_of_question(alloc, mark)?;
-        Some(self.is_explained(alloc, &lengths))
-    }
-
-    /// Whether a schedule of the trace cut to these lengths is known.
-    fn is_explained(&self, alloc: Global, lengths: &Lengths) -> bool
-        requires { IsWithin lengths.now (lengths_of self.now.state.sequences) }
+    /// Follows the order of the reports on from where the last look ended, as far as it is a schedule. Gives how many operations
+    /// are left.
+    fn follow_reports(&mut self, alloc: Global) -> Option<usize>
+        ensures { self.new ≡ self.old }
     {
-        let proposing = Proposing {
-            alloc,
-            sequences: &self.sequences,
-            lengths,
-            limit: self.budget.limit(),
-            earlier: &self.earlier,
-            purpose: Purpose::Answer,
+        let lengths = self.sequences.lengths();
+        let mut followed = match self.followed.take() {
+            Some(followed) => followed,
+            None => Beginning::new(alloc, self.reach.initials(), lengths.procs())?,
         };
-        proposing.is_explained(&self.reach)
+        let places = self.earlier.reported(&lengths)?;
+        followed.follow(&self.sequences, &lengths, places.get(followed.made()..)?);
+        let left = followed.left(&lengths);
+        self.followed = Some(followed);
+        Some(left)
     }
 
     /// Takes a question back that may have been lent of another trace: its set stands in the place of the present one where

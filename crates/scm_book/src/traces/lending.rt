@@ -1,22 +1,26 @@
 //! Questions that are searched beside the traces.
-ghost use Rattle.std.specs.Prelude.{◌≡◌, None, MatchOption};
+ghost use Rattle.std.specs.Prelude.{◌≡◌, None, IfSome, MatchOption};
 ghost use Rattle.scm_book.specs.Sets.{machine_in, sets_in};
 ghost use Rattle.scm_book.specs.Loans.{IsLentOf, IsTakenBack};
+ghost use Rattle.scm_book.specs.Plans.{IsExplained, known_in, loan_in};
+ghost use Rattle.scm_book.specs.Steps.{InTrace};
 
 use super::Traces;
+use crate::Plan;
 use crate::loan::Loan;
-use crate::open_trace::Purpose;
 use scm_cells::Name;
 
 impl Traces {
-    /// The question about the trace of this name, to be searched elsewhere. `None`, with everything as it was, where there
-    /// is no such trace or the trace lends none.
-    pub(crate) fn lend(&mut self, name: &Name, mark: Option<u64>) -> Option<Loan>
+    /// The plan of a question about the trace of this name.
+    pub(crate) fn plan(&mut self, name: &Name, mark: Option<u64>) -> Plan
         ensures machine { machine_in self.new ≡ machine_in self.old }
-        ensures lends { MatchOption result (sets_in self.new ≡ sets_in self.old) (λ loan. IsLentOf (machine_in self.old) (sets_in self.old) name.now mark loan (sets_in self.new)) }
+        ensures lends { MatchOption (loan_in result) (sets_in self.new ≡ sets_in self.old) (λ loan. IsLentOf (machine_in self.old) (sets_in self.old) name.now mark loan (sets_in self.new)) }
+        ensures known { IfSome (known_in result) (λ reply. InTrace (machine_in self.new) name.now (λ state. IsExplained state mark reply)) }
     {
-        let trace = self.traces.get_mut(name)?;
-        trace.lend(self.alloc, *name, mark, Purpose::Answer)
+        let Some(trace) = self.traces.get_mut(name) else {
+            return Plan::Ready(None);
+        };
+        trace.plan(self.alloc, *name, mark)
     }
 
     /// The first trace whose set may be wanted for work.
@@ -48,14 +52,6 @@ impl Traces {
         let name = self.wanting()?;
         let trace = self.traces.get_mut(&name)?;
         trace.lend_work(self.alloc, name)
-    }
-
-    /// Whether a question about the trace of this name has to wait until its set is back.
-    pub(crate) fn awaits_set(&self, name: &Name, mark: Option<u64>) -> bool {
-        match self.traces.get(name) {
-            Some(trace) => trace.awaits_set(self.alloc, mark),
-            None => false,
-        }
     }
 
     /// Takes a question back, whatever happened since.

@@ -19,8 +19,9 @@ returns-in-Some-clause-made g c makes =
     let number : c.pass.inside.number ≡ c.args.pass.now.number = ap (λ (k : Known). k.number) c.pass.view_is in
     let entry = c.call_kept-reply.ensures.called.entry makes ∙ ap (λ (n : ℕ). entered log n (call_data c.args.call) (reply_data c.call_kept-reply.result.0)) number in
     let kept = rw c.in-Some.is at c.call_kept-reply.ensures.kept in
-    let made = kept_more c.pass.inside.kept.items c.push_reserved.new.self.items c.in-Some.kept (call_data c.args.call) (reply_data c.call_kept-reply.result.0) c.args.pass.now.made
-    (c.push_reserved.ensures.items ∙ ap (λ (l : List (Call × Reply)). l ++ c.in-Some.kept ∷ []) c.reserve.ensures.items)
+    let items : c.push_reserved.new.self.items ≡ c.pass.inside.kept.items ++ c.in-Some.kept ∷ [] =
+    ◌∙◌ {A = List (Call × Reply)} c.push_reserved.ensures.items (ap (λ (l : List (Call × Reply)). l ++ c.in-Some.kept ∷ []) c.reserve.ensures.items) in
+    let made = kept_more c.pass.inside.kept.items c.push_reserved.new.self.items c.in-Some.kept (call_data c.args.call) (reply_data c.call_kept-reply.result.0) c.args.pass.now.made items
     (ap (λ (k : Known). k.made) c.pass.view_is) kept.same_call kept.same_reply in
     let all = committed c.entries-entries.result.now c.index-entries-count.result _ _ log c.call_kept-reply.new.self.journal _ c.entries-entries.ensures.entries (c.call_kept-reply.ensures.called.entry makes) refl c.index-entries-count.is in
     extended c.args.pass.now log c.call_kept-reply.new.self.journal c.call_kept-reply.new.self.machine (call_data c.args.call) (reply_data c.call_kept-reply.result.0) _ _ _ _

@@ -10,17 +10,17 @@ const REST_MILLIS: u64 = 2;
 /// Counts how often callers came and went, and remembers the last count at which it is known that they rested. It stands
 /// beside the lock.
 #[derive(Drop)]
-pub(crate) struct Rest {
+pub(crate) struct Callers {
     came: AtomicU64,
     went: AtomicU64,
     rested: AtomicU64,
     ended: AtomicU64,
 }
 
-impl Rest {
+impl Callers {
     /// Nobody came.
-    pub(crate) fn new() -> Rest {
-        Rest {
+    pub(crate) fn new() -> Callers {
+        Callers {
             came: AtomicU64::new(0),
             went: AtomicU64::new(0),
             rested: AtomicU64::new(0),
@@ -29,12 +29,12 @@ impl Rest {
     }
 
     /// A caller comes: to make a call, or to have a question answered that was searched elsewhere.
-    pub(crate) fn begin(&self) {
+    pub(crate) fn come(&self) {
         self.came.fetch_add(1, Ordering::SeqCst);
     }
 
     /// One goes, answered, or with a question that is searched elsewhere.
-    pub(crate) fn end(&self) {
+    pub(crate) fn go(&self) {
         self.went.fetch_add(1, Ordering::SeqCst);
     }
 

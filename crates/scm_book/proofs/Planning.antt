@@ -1,0 +1,151 @@
+-- A known reply is a step of the machine, and leaves all as it is.
+use Rattle.std.proofs.Common.{◌≡◌, ℕ, List, Option, None, Some, IfSome, IsSomeAnd, Result, Ok, Err, MatchResult, inr, refl, reverse, sym, subst}
+use Rattle.std.specs.Map.{lookup}
+use Rattle.std.specs.Option.{option_map}
+use Rattle.std.proofs.lemmas.Map.Steps.{set_value_same}
+use Rattle.scm_sequences.specs.declared.op.Op.{Op}
+use Rattle.scm_sequences.specs.declared.refusal.Refusal.{Refusal}
+use Rattle.scm_sequences.specs.Fronts.{IsSchedule}
+use Rattle.scm_sequences.specs.Traces.{cut_to, trace_of}
+use Rattle.scm_cells.specs.CellLists.{Declared, initials_of}
+use Rattle.scm_cells.specs.Names.{name_eq}
+use Rattle.scm_reach.specs.Members.{Member}
+use Rattle.scm_reach.specs.laws.WorkLaws.{KeepsWork-idle}
+use Rattle.scm_book.specs.declared.reply.Reply.{Reply}
+use Rattle.scm_book.specs.Calls.{CallData, opens, claims, releases, reports, sets_mark, goes_back, raises, asks, asks_why, asks_cycle, shows, lists, closes, ReplyData, done, marked, consistent, inconsistent, undecided, because, cycle, unknown, ops, listed, refused, reply_data}
+use Rattle.scm_book.specs.Machine.{Machine, TraceState, trace_named, trace_in}
+use Rattle.scm_book.specs.Plans.{HasSchedule, IsExplained, IsKnown, IsKnownReply}
+use Rattle.scm_book.specs.Refusals.{question_cause}
+use Rattle.scm_book.specs.Sets.{KeptTrace, machine_in, sets_in, set_named, asked_lengths, IsKnownBy, Searches, SearchesSet, LeavesSets}
+use Rattle.scm_book.specs.Steps.{Asks, AsksWhy, InTrace, IsStepOrNoMemory}
+use Rattle.scm_book.specs.Verdicts.{Fits}
+use Rattle.scm_book.proofs.Answering.{there_done}
+use Rattle.scm_book.proofs.AskedLengths.{about_asked, cause_none}
+use Rattle.scm_book.proofs.Entries.{trace_named-lookup, set_named-lookup}
+use Rattle.scm_book.proofs.Leaving.{searches_none, searches_set}
+
+-- a copy of a schedule is one, of the trace whose cells hold this at first
+pub schedule_copied : (initials : List (Option ℕ)) (cells : List Declared) (sequences : List (List Op)) (lengths known copy : List ℕ) → initials ≡ initials_of cells → copy ≡ known → IsSchedule (cut_to (trace_of initials sequences) lengths) (reverse known)
+    → IsSchedule (cut_to (trace_of (initials_of cells) sequences) lengths) (reverse copy)
+schedule_copied initials cells sequences lengths known copy held same schedule =
+    subst (λ i. IsSchedule (cut_to (trace_of i sequences) lengths) (reverse copy)) held (subst (λ places. IsSchedule (cut_to (trace_of initials sequences) lengths) (reverse places)) (sym same) schedule)
+
+-- ---- of a trace
+
+-- a schedule of the trace cut to the lengths that a question is about explains what it is about
+explained : (state : TraceState) (mark : Option ℕ) (limit : ℕ) (lengths : List ℕ) (reply : ReplyData) → limit ≡ state.budget → asked_lengths state mark ≡ Ok lengths → HasSchedule reply → Fits state.cells (cut_to (trace_in state) lengths) limit reply
+    → IsExplained state mark reply
+explained state mark limit lengths reply budget is schedule fits = record {
+  there = cause_none state mark lengths is;
+  schedule = schedule;
+  fits = about_asked state mark (λ t. Fits state.cells t state.budget reply) lengths is (subst (λ n. Fits state.cells (cut_to (trace_in state) lengths) n reply) budget fits);
+}
+
+-- the same of one that may be there
+pub explained_known : (state : TraceState) (mark : Option ℕ) (limit : ℕ) (lengths : List ℕ) (known : Option Reply) → limit ≡ state.budget → asked_lengths state mark ≡ Ok lengths → IfSome known (λ reply. HasSchedule (reply_data reply))
+    → IfSome known (λ reply. Fits state.cells (cut_to (trace_in state) lengths) limit (reply_data reply)) → IfSome known (λ reply. IsExplained state mark (reply_data reply))
+explained_known state mark limit lengths None budget is schedule fits = schedule
+explained_known state mark limit lengths (Some reply) budget is schedule fits = explained state mark limit lengths (reply_data reply) budget is schedule fits
+
+-- it is what `ask` answers, and `why`
+explained_asks : (state : TraceState) (mark : Option ℕ) (reply : ReplyData) → IsExplained state mark reply → Asks state mark reply
+explained_asks state mark reply e = (e.fits, λ situations is. subst HasSchedule is e.schedule)
+
+explained_asks_why : (state : TraceState) (mark : Option ℕ) (reply : ReplyData) → IsExplained state mark reply → AsksWhy state mark reply
+explained_asks_why state mark reply e = (e.fits, λ is. subst HasSchedule is e.schedule)
+
+-- nothing was done for it
+schedule_idle : (reply : ReplyData) (sequences : List (List Op)) (lengths : List ℕ) (members : List Member) (made : ℕ) → HasSchedule reply → IsKnownBy reply sequences lengths members made members made
+schedule_idle (consistent schedule fixed) sequences lengths members made has = inr (refl, refl)
+schedule_idle inconsistent sequences lengths members made has = absurd has
+schedule_idle (because situations) sequences lengths members made has = absurd has
+schedule_idle undecided sequences lengths members made has = absurd has
+schedule_idle done sequences lengths members made has = absurd has
+schedule_idle (marked mark) sequences lengths members made has = absurd has
+schedule_idle (cycle lines hints) sequences lengths members made has = absurd has
+schedule_idle unknown sequences lengths members made has = absurd has
+schedule_idle (ops shown) sequences lengths members made has = absurd has
+schedule_idle (listed names) sequences lengths members made has = absurd has
+schedule_idle (refused refusal) sequences lengths members made has = absurd has
+
+-- ---- of the machine
+
+module _ (machine : Machine) (name : List ℕ) (mark : Option ℕ) (reply : ReplyData) where
+  known_schedule : InTrace machine name (λ state. IsExplained state mark reply) → HasSchedule reply
+  known_schedule known = by (trace_named machine name) known where
+    by : (o : Option TraceState) → IsSomeAnd o (λ state. IsExplained state mark reply) → HasSchedule reply
+    by None known = absurd known
+    by (Some state) known = known.schedule
+
+  known_ask : (session : ℕ) → InTrace machine name (λ state. IsExplained state mark reply) → IsStepOrNoMemory machine session (asks name mark) reply machine
+  known_ask session known = by (trace_named machine name) refl known where
+    by : (o : Option TraceState) → trace_named machine name ≡ o → IsSomeAnd o (λ state. IsExplained state mark reply) → IsStepOrNoMemory machine session (asks name mark) reply machine
+    by None is known = absurd known
+    by (Some state) is known =
+        there_done machine machine name (λ s. question_cause s mark) state is reply (λ s. Asks s mark reply × (machine ≡ machine)) known.there (explained_asks state mark reply known, refl)
+
+  known_why : (session : ℕ) → InTrace machine name (λ state. IsExplained state mark reply) → IsStepOrNoMemory machine session (asks_why name mark) reply machine
+  known_why session known = by (trace_named machine name) refl known where
+    by : (o : Option TraceState) → trace_named machine name ≡ o → IsSomeAnd o (λ state. IsExplained state mark reply) → IsStepOrNoMemory machine session (asks_why name mark) reply machine
+    by None is known = absurd known
+    by (Some state) is known =
+        there_done machine machine name (λ s. question_cause s mark) state is reply (λ s. AsksWhy s mark reply × (machine ≡ machine)) known.there (explained_asks_why state mark reply known, refl)
+
+-- the reply that is carried is known
+pub carried : (machine : Machine) (call : CallData) (known : Option Reply) (reply : Reply) → known ≡ Some reply → IsKnown machine call (option_map reply_data known) → IsKnownReply machine call (reply_data reply)
+carried machine call known reply is k = subst (λ o. IsKnown machine call (option_map reply_data o)) is k
+
+-- a call with a known reply is a step that leaves the machine as it is
+pub known_step : (machine : Machine) (session : ℕ) (call : CallData) (reply : ReplyData) → IsKnownReply machine call reply → IsStepOrNoMemory machine session call reply machine
+known_step machine session (asks name mark) reply known = known_ask machine name mark reply session known
+known_step machine session (asks_why name mark) reply known = known_why machine name mark reply session known
+known_step machine session (opens name procs budget decls) reply known = absurd known
+known_step machine session (claims name p) reply known = absurd known
+known_step machine session (releases name p) reply known = absurd known
+known_step machine session (reports name p access) reply known = absurd known
+known_step machine session (sets_mark name) reply known = absurd known
+known_step machine session (goes_back name m) reply known = absurd known
+known_step machine session (raises name n) reply known = absurd known
+known_step machine session (asks_cycle name mark) reply known = absurd known
+known_step machine session (shows name p) reply known = absurd known
+known_step machine session lists reply known = absurd known
+known_step machine session (closes name) reply known = absurd known
+
+-- ---- of the sets
+
+searches_known : (traces : List (List ℕ × KeptTrace)) (name : List ℕ) (mark : Option ℕ) (reply : ReplyData) (made : ℕ) → HasSchedule reply → SearchesSet (machine_in traces) (sets_in traces) name mark reply made made (sets_in traces)
+searches_known traces name mark reply made has = by (lookup (name_eq name) traces) refl where
+  by : (o : Option KeptTrace) → o ≡ lookup (name_eq name) traces → SearchesSet (machine_in traces) (sets_in traces) name mark reply made made (sets_in traces)
+  by None is = searches_none (machine_in traces) (sets_in traces) (sets_in traces) name mark reply made made (trace_named-lookup traces traces refl name None is) refl refl
+  by (Some k) is =
+      let found : set_named (sets_in traces) name ≡ Some k.set = set_named-lookup traces traces refl name (Some k) is in
+      searches_set (machine_in traces) (sets_in traces) (sets_in traces) name mark reply made made k.state k.set k.set (trace_named-lookup traces traces refl name (Some k) is) found (at (asked_lengths k.state mark))
+      (sym (set_value_same (name_eq name) (sets_in traces) k.set found))
+    where
+      at : (r : Result (List ℕ) Refusal) → MatchResult r (λ lengths. Searches k.state reply made made lengths k.set k.set) (λ refusal. (k.set ≡ k.set) × (made ≡ made))
+      at (Ok lengths) = record { initials = refl; work = KeepsWork-idle _ k.state.budget k.set.members made; known = schedule_idle reply k.state.sequences lengths k.set.members made has }
+      at (Err refusal) = (refl, refl)
+
+-- and the sets
+pub known_leaves : (traces : List (List ℕ × KeptTrace)) (call : CallData) (reply : ReplyData) (made : ℕ) → IsKnownReply (machine_in traces) call reply → LeavesSets (machine_in traces) (sets_in traces) call reply made made (sets_in traces)
+known_leaves traces (asks name mark) reply made known = searches_known traces name mark reply made (known_schedule (machine_in traces) name mark reply known)
+known_leaves traces (asks_why name mark) reply made known = searches_known traces name mark reply made (known_schedule (machine_in traces) name mark reply known)
+known_leaves traces (opens name procs budget decls) reply made known = absurd known
+known_leaves traces (claims name p) reply made known = absurd known
+known_leaves traces (releases name p) reply made known = absurd known
+known_leaves traces (reports name p access) reply made known = absurd known
+known_leaves traces (sets_mark name) reply made known = absurd known
+known_leaves traces (goes_back name m) reply made known = absurd known
+known_leaves traces (raises name n) reply made known = absurd known
+known_leaves traces (asks_cycle name mark) reply made known = absurd known
+known_leaves traces (shows name p) reply made known = absurd known
+known_leaves traces lists reply made known = absurd known
+known_leaves traces (closes name) reply made known = absurd known
+
+-- ---- of a plan
+
+-- what is known of the trace of this name
+pub known_of : (machine : Machine) (name : List ℕ) (mark : Option ℕ) (state : TraceState) (known : Option ReplyData) → trace_named machine name ≡ Some state → IfSome known (λ reply. IsExplained state mark reply)
+    → IfSome known (λ reply. InTrace machine name (λ s. IsExplained s mark reply))
+known_of machine name mark state None there known = known
+known_of machine name mark state (Some reply) there known = subst (λ o. IsSomeAnd o (λ s. IsExplained s mark reply)) (sym there) known
