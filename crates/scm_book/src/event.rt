@@ -2,10 +2,10 @@
 ghost use Rattle.std.specs.Prelude.{◌≡◌, ◌<◌, ◌≤◌, ◌++◌, [], length, map, IfOk, IfErr};
 ghost use Rattle.std.specs.Vec.{vec_capacity};
 ghost use Rattle.std.specs.Option.{option_map};
-ghost use Rattle.scm_book.specs.Calls.{reply_data};
+ghost use Rattle.scm_book.specs.Calls.{call_data, reply_data};
 ghost use Rattle.scm_book.specs.Runs.{IsRun};
 ghost use Rattle.scm_book.specs.Journal.{IsLegalBook};
-ghost use Rattle.scm_book.specs.Events.{event_data, IsAnswered, AnswersAll, with_reply, steps_of};
+ghost use Rattle.scm_book.specs.Events.{takes, lends, lends_work, event_data, IsAnswered, AnswersAll, with_reply, steps_of};
 
 use crate::{Book, Call, Loan, Reply};
 use scm_expand::Outcome;
@@ -28,6 +28,33 @@ pub enum Event {
     TakeBack(Loan),
 }
 
+/// Takes at most `n` tasks, and drops them.
+fn take(book: &mut Book, n: usize)
+    ensures taken { IsAnswered book.old (takes n) None book.new }
+    ensures legal { IsLegalBook book.new }
+{
+    let tasks = book.take(n);
+    drop(tasks);
+}
+
+/// Lends the question that a call asks, where its plan says so, and drops it.
+fn lend(book: &mut Book, call: &Call)
+    ensures lent { IsAnswered book.old (lends (call_data call.now)) None book.new }
+    ensures legal { IsLegalBook book.new }
+{
+    let plan = book.plan(call);
+    drop(plan);
+}
+
+/// Lends a set for work, and drops it.
+fn lend_work(book: &mut Book)
+    ensures lent { IsAnswered book.old lends_work None book.new }
+    ensures legal { IsLegalBook book.new }
+{
+    let loan = book.lend_work();
+    drop(loan);
+}
+
 /// The reply to an event, where it is a call.
 fn answer(book: &mut Book, event: Event) -> Option<Reply>
     ensures answered { IsAnswered book.old (event_data event) (option_map reply_data result) book.new }
@@ -36,7 +63,7 @@ fn answer(book: &mut Book, event: Event) -> Option<Reply>
     match event {
         Event::CallBy { session, call } => Some(book.call(session, call)),
         Event::Take(n) => {
-            let _dropped = book.take(n);
+            take(book, n);
             None
         }
         Event::Deliver(outcomes) => {
@@ -44,11 +71,11 @@ fn answer(book: &mut Book, event: Event) -> Option<Reply>
             None
         }
         Event::Lend(call) => {
-            let _dropped = book.plan(&call);
+            lend(book, &call);
             None
         }
         Event::LendWork => {
-            let _dropped = book.lend_work();
+            lend_work(book);
             None
         }
         Event::TakeBack(loan) => {
