@@ -4,9 +4,11 @@ use Rattle.std.proofs.lemmas.List.{length-append, map-append}
 use Rattle.std.proofs.lemmas.Bool.{leb-false}
 use Rattle.scm_sequences.specs.declared.refusal.Refusal.TheVariants.{NoMemory, JournalFull}
 use Rattle.scm_sequences.specs.declared.limits.TheConstants.{MOST_ENTRIES}
-use Rattle.scm_book.specs.Calls.{CallData, ReplyData, EntryData, refused, call_data, reply_data}
+use Rattle.std.specs.Arc.{arc_value}
+use Rattle.std.specs.Global.{Global}
+use Rattle.std.specs.declared.sync.Arc.{Arc}
+use Rattle.scm_book.specs.Calls.{CallData, ReplyData, EntryData, KeptCall, refused, call_data, reply_data}
 use Rattle.scm_book.specs.declared.call.Call.{Call}
-use Rattle.scm_book.specs.declared.reply.Reply.{Reply}
 use Rattle.scm_book.specs.Machine.{Machine, empty_machine}
 use Rattle.scm_book.specs.Steps.{IsStep, IsStepOrNoMemory}
 use Rattle.scm_book.specs.Changes.{tells_of_change}
@@ -129,12 +131,15 @@ pub machine-no_entry : (old new : Machine) (session : ℕ) (call : CallData) (re
 machine-no_entry old new session call reply (inl step) none = let no : true ≡ false = sym (IsStep-enters old new session call reply step) ∙ none in cc
 machine-no_entry old new session call reply (inr memory) none = memory.1
 
--- copies that were made beside an entry are equal to it
-pub copies-of_entry : (copy : Option Call) (made : Option (Call × Reply)) (reply : ReplyData) → IfSome copy (λ copied. IsSomeAnd made (λ k. (call_data k.0 ≡ call_data copied) × (reply_data k.1 ≡ reply)))
-    → makes_entry reply ≡ true → IfSome copy (λ copied. MatchOption made (makes_entry reply ≡ false) (λ k. AreOfEntry (call_data copied) reply (call_data k.0) (reply_data k.1)))
-copies-of_entry None made reply are makes = tt
-copies-of_entry (Some copied) (Some k) reply are makes = record { makes = makes; same_call = are.0; same_reply = are.1 }
-copies-of_entry (Some copied) None reply are makes = absurd are
+-- what is kept of an entry that was made is equal to it
+pub kept-of_entry : (is_kept : Bool) (call : Call) (shared : Option (Arc Call Global)) (given : Option KeptCall) (reply : ReplyData)
+    → MatchOption shared (is_kept ≡ false) (λ owner. (is_kept ≡ true) × (arc_value owner ≡ call))
+    → IfSome shared (λ owner. IsSomeAnd given (λ kept. (arc_value kept.0 ≡ arc_value owner) × (reply_data kept.1 ≡ reply)))
+    → makes_entry reply ≡ true → is_kept ≡ true
+    → MatchOption given (makes_entry reply ≡ false) (λ kept. AreOfEntry (call_data call) reply (call_data (arc_value kept.0)) (reply_data kept.1))
+kept-of_entry is_kept call None given reply owned are makes wanted = let no : true ≡ false = sym wanted ∙ owned in cc
+kept-of_entry is_kept call (Some owner) (Some kept) reply owned are makes wanted = record { makes = makes; same_call = ap call_data (are.0 ∙ owned.1); same_reply = are.1 }
+kept-of_entry is_kept call (Some owner) None reply owned are makes wanted = absurd are
 
 -- a reply that couldn't be copied tells of no change
 pub untold : (reply : ReplyData) (copied : Bool) → (tells_of_change reply ≡ true → copied ≡ true) → copied ≡ false → tells_of_change reply ≡ false

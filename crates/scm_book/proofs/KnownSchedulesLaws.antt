@@ -1,5 +1,5 @@
 -- The schedule that is kept for proposals is no longer than its trace.
-use Rattle.std.proofs.Common.{ℕ, ◌≡◌, ◌+◌, ◌<◌, ◌≤◌, max, zero, suc, List, [], ◌∷◌, length, sum, slice_index, Option, None, Result, Ok, Err, OnOk, OnErr, sym, ap, subst, arith}
+use Rattle.std.proofs.Common.{ℕ, ◌≡◌, ◌≤◌, max, suc, List, [], ◌∷◌, length, sum, slice_index, None, Result, Ok, Err, OnOk, OnErr, sym, subst, arith}
 use Rattle.std.proofs.lemmas.List.Sums.{sum_by-cons}
 use Rattle.scm_sequences.specs.declared.op.Op.{Op}
 use Rattle.scm_sequences.specs.declared.refusal.Refusal.{Refusal}

@@ -1,8 +1,6 @@
 -- What a journal says of one session, and of no machine in particular.
 use Rattle.std.specs.Prelude.{ℕ, List, [], ◌∷◌, if◌then◌else◌, ◌==◌}
-use Rattle.scm_book.specs.declared.call.Call.{Call}
-use Rattle.scm_book.specs.declared.reply.Reply.{Reply}
-use Rattle.scm_book.specs.Calls.{CallData, ReplyData, EntryData, call_data, reply_data}
+use Rattle.scm_book.specs.Calls.{CallData, ReplyData, EntryData}
 use Rattle.scm_book.specs.Machine.{Machine}
 use Rattle.scm_book.specs.Journal.{IsLegalHistory}
 
@@ -12,10 +10,6 @@ calls_by session [] = []
 calls_by session (entry ∷ others) =
     if entry.session == session then (entry.call, entry.reply) ∷ calls_by session others
     else calls_by session others
-
--- a call and its reply, as they are kept
-abbrev pub pair_data : Call × Reply → CallData × ReplyData
-pair_data pair = (call_data pair.0, reply_data pair.1)
 
 -- the entries are a legal history: some machine stands at its end
 pub record IsHistory (entries : List EntryData) : Type 0 where

@@ -1,5 +1,8 @@
 -- Calls, replies and entries of the journal as plain data: what a clause compares, with a list for each vector.
 use Rattle.std.specs.Prelude.{ℕ, List, Option, Result, Ok, Err}
+use Rattle.std.specs.Arc.{arc_value}
+use Rattle.std.specs.Global.{Global}
+use Rattle.std.specs.declared.sync.Arc.{Arc}
 use Rattle.scm_sequences.specs.declared.refusal.Refusal.{Refusal}
 use Rattle.scm_lowering.specs.declared.access.Access.{Access}
 use Rattle.scm_frontier.specs.Situated.{Situated}
@@ -95,10 +98,17 @@ abbrev pub answer_data : Result Reply Refusal → ReplyData
 answer_data (Ok reply) = reply_data reply
 answer_data (Err refusal) = refused refusal
 
+-- a call as it is kept beside its entry, which shares it, with its reply
+abbrev pub KeptCall : Type 0
+KeptCall = Arc Call Global × Reply
+
+abbrev pub kept_data : KeptCall → CallData × ReplyData
+kept_data kept = (call_data (arc_value kept.0), reply_data kept.1)
+
 abbrev pub entry_data : Entry → EntryData
 entry_data entry = record {
   session = entry.session;
   number = entry.number;
-  call = call_data entry.call;
+  call = call_data (arc_value entry.call);
   reply = reply_data entry.reply;
 }

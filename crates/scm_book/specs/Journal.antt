@@ -6,9 +6,8 @@ use Rattle.scm_sequences.specs.declared.limits.TheConstants.{MOST_ENTRIES}
 use Rattle.scm_results.specs.declared.results.Results.{Results}
 use Rattle.scm_results.specs.Totals.{capped}
 use Rattle.scm_reach.specs.Kept.{Kept}
-use Rattle.scm_book.specs.declared.call.Call.{Call}
 use Rattle.scm_book.specs.declared.reply.Reply.{Reply}
-use Rattle.scm_book.specs.Calls.{CallData, ReplyData, refused, EntryData, call_data, reply_data}
+use Rattle.scm_book.specs.Calls.{CallData, ReplyData, refused, EntryData, KeptCall, kept_data, reply_data}
 use Rattle.scm_book.specs.Machine.{Machine, empty_machine}
 use Rattle.scm_book.specs.Sets.{LeavesSets}
 use Rattle.scm_book.specs.Steps.{IsStep}
@@ -75,10 +74,10 @@ pub record AreOfEntry (call : CallData) (reply : ReplyData) (kept_call : CallDat
   pub same_call : kept_call ≡ call
   pub same_reply : kept_reply ≡ reply
 
--- what is given beside the reply where copies are wanted: such ones where the call makes an entry, else nothing
-abbrev pub GivesCopies : CallData → Reply → Option (Call × Reply) → Type 0
-GivesCopies call reply given =
-    MatchOption given (makes_entry (reply_data reply) ≡ false) (λ k. AreOfEntry call (reply_data reply) (call_data k.0) (reply_data k.1))
+-- what is given beside the reply to keep: call and reply where they make an entry, else nothing
+abbrev pub GivesKept : CallData → Reply → Option KeptCall → Type 0
+GivesKept call reply given =
+    MatchOption given (makes_entry (reply_data reply) ≡ false) (λ kept. AreOfEntry call (reply_data reply) (kept_data kept).0 (kept_data kept).1)
 
 -- a session's call with this reply leads from old to new. It is refused for a full journal exactly where the journal is
 -- full. A reply that makes an entry is that of the machine, and this call with its reply stands last in the journal; with

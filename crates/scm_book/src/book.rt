@@ -1,5 +1,6 @@
 //! The book of open traces.
 ghost use Rattle.std.specs.Prelude.{◌≡◌, ◌≢◌, ◌↔◌, ◌+◌, ◌-◌, [], false, map, None, Some, true, is_ok, IsTrue, IfOk, IfSome, IsSomeAnd, MatchResult};
+ghost use Rattle.std.specs.Arc.{arc_value};
 ghost use Rattle.std.specs.Option.{option_map};
 ghost use Rattle.scm_book.specs.Calls.{call_data, reply_data, entry_data, opens, claims, releases, reports, sets_mark, goes_back, raises, asks, asks_why, asks_cycle, shows, lists, closes, refused};
 ghost use Rattle.scm_sequences.specs.declared.refusal.Refusal.TheVariants.{BadLine, TooManySessions};
@@ -10,7 +11,7 @@ ghost use Rattle.scm_book.specs.Workers.{IsTaking, IsDelivery, OffersNothingNew}
 ghost use Rattle.scm_book.specs.Loans.{IsLending, IsLendingForWork, IsTakingBack};
 ghost use Rattle.scm_book.specs.Plans.{IsKnown, known_in, loan_in};
 ghost use Rattle.scm_book.specs.Changes.{tells_of_change};
-ghost use Rattle.scm_book.specs.Journal.{count_of as count_in, GivesCopies, IsCall, IsLegalBook};
+ghost use Rattle.scm_book.specs.Journal.{count_of as count_in, GivesKept, IsCall, IsLegalBook};
 
 use crate::journal::Journal;
 use crate::loan::Loan;
@@ -24,6 +25,7 @@ use scm_results::Results;
 use scm_sequences::{NoMemory, Refusal};
 use std::alloc::Global;
 use std::marker::Model;
+use std::sync::Arc;
 
 /// The open traces, with a journal of the calls that were answered.
 ///
@@ -208,56 +210,46 @@ impl Book {
         ensures legal { IsLegalBook self.new }
     {
         let mut steps = self.traces.new_counter(&call);
-        let (reply, copies) = self.make(session, call, None, None, &mut steps);
+        let (reply, copies) = self.make(session, call, None, false, &mut steps);
         drop(copies);
         reply
     }
 
-    /// Makes a call of a session, and gives copies of call and reply too where they made an entry. The copies are made
-    /// before anything changes, but for what a question finds out; where there is no memory for them, the call is refused.
-    /// Where its plan carries a reply, that is the answer.
+    /// Makes a call of a session, and gives the entry's call, which it shares, and a copy of the reply where they made an
+    /// entry. They are made before anything changes, but for what a question finds out; where there is no memory for them,
+    /// the call is refused. Where its plan carries a reply, that is the answer.
     pub fn call_kept(
         &mut self,
         session: u16,
         call: Call,
         known: Option<Reply>,
-    ) -> (Reply, Option<(Call, Reply)>)
+    ) -> (Reply, Option<(Arc<Call>, Reply)>)
         requires { IsKnown self.old.machine (call_data call) (option_map reply_data known) }
         ensures called { IsCall self.old session (call_data call) (reply_data result.0) self.new }
-        ensures kept { GivesCopies (call_data call) result.0 result.1 }
+        ensures kept { GivesKept (call_data call) result.0 result.1 }
         ensures machine { tells_of_change (reply_data result.0) ≡ false → self.new.machine ≡ self.old.machine }
         ensures good { reply_data result.0 ≢ refused BadLine }
         ensures sessions { reply_data result.0 ≢ refused TooManySessions }
         ensures legal { IsLegalBook self.new }
     {
-        if self.journal.is_full() {
-            drop(known);
-            drop(call);
-            return (Reply::Refused(Refusal::JournalFull), None);
-        }
-        let Ok(copy) = call.copy() else {
-            drop(known);
-            drop(call);
-            return (Reply::Refused(Refusal::NoMemory), None);
-        };
         let mut steps = self.traces.new_counter(&call);
-        self.make(session, call, known, Some(copy), &mut steps)
+        self.make(session, call, known, true, &mut steps)
     }
 
-    /// Makes a call of a session, unless its reply is known, and counts the steps of a question. A copy of the call that is
-    /// handed in comes back with one of the reply, where they made an entry.
+    /// Makes a call of a session, unless its reply is known, and counts the steps of a question. Where it `is_kept` and makes
+    /// an entry, its call, which the entry shares, comes back with a copy of the reply.
     fn make(
         &mut self,
         session: u16,
         call: Call,
         known: Option<Reply>,
-        copy: Option<Call>,
+        is_kept: bool,
         steps: &mut Steps,
-    ) -> (Reply, Option<(Call, Reply)>)
+    ) -> (Reply, Option<(Arc<Call>, Reply)>)
         requires room { HasRoom self.old.machine (call_data call) steps.old }
         requires known { IsKnown self.old.machine (call_data call) (option_map reply_data known) }
         ensures called { IsCall self.old session (call_data call) (reply_data result.0) self.new }
-        ensures kept { IfSome copy (λ copied. GivesCopies (call_data copied) result.0 result.1) }
+        ensures kept { is_kept ≡ true → GivesKept (call_data call) result.0 result.1 }
         ensures machine { tells_of_change (reply_data result.0) ≡ false → self.new.machine ≡ self.old.machine }
         ensures sets { LeavesSets self.old.machine self.old.sets (call_data call) (reply_data result.0) steps.old steps.new self.new.sets }
         ensures counted { self.new.steps ≡ capped (self.old.steps + (steps.new - steps.old)) }
@@ -266,16 +258,16 @@ impl Book {
         if self.journal.is_full() {
             return (Reply::Refused(Refusal::JournalFull), None);
         }
-        if self.journal.make_room(session).is_err() {
+        let Ok((call, shared)) = self.journal.make_room(session, call, is_kept) else {
             return (Reply::Refused(Refusal::NoMemory), None);
-        }
+        };
         let before = steps.made();
         let reply = self.traces.call(session, &call, known, steps);
         self.steps = self.steps.saturating_add(steps.made() - before);
         if !reply.makes_entry() {
             return (reply, None);
         }
-        let Ok((entered, kept)) = copies(&reply, copy) else {
+        let Ok((entered, kept)) = copies(&reply, shared) else {
             return (Reply::Refused(Refusal::NoMemory), None);
         };
         self.journal.enter(session, call, entered);
@@ -383,7 +375,7 @@ impl Book {
         ensures counted { self.new.steps ≡ capped (self.old.steps + (steps.new - steps.old)) }
         ensures legal { IsLegalBook self.new }
     {
-        let (reply, copies) = self.make(session, Call::Ask { name, mark }, None, None, steps);
+        let (reply, copies) = self.make(session, Call::Ask { name, mark }, None, false, steps);
         drop(copies);
         reply
     }
@@ -396,7 +388,7 @@ impl Book {
         ensures counted { self.new.steps ≡ capped (self.old.steps + (steps.new - steps.old)) }
         ensures legal { IsLegalBook self.new }
     {
-        let (reply, copies) = self.make(session, Call::Why { name, mark }, None, None, steps);
+        let (reply, copies) = self.make(session, Call::Why { name, mark }, None, false, steps);
         drop(copies);
         reply
     }
@@ -437,10 +429,13 @@ impl Book {
     }
 }
 
-/// A copy of the reply for the journal, and another one beside the copy of the call where one is given.
-fn copies(reply: &Reply, call: Option<Call>) -> Result<(Reply, Option<(Call, Reply)>), NoMemory>
+/// A copy of the reply for the journal, and another one beside the call where one is given.
+fn copies(
+    reply: &Reply,
+    call: Option<Arc<Call>>,
+) -> Result<(Reply, Option<(Arc<Call>, Reply)>), NoMemory>
     ensures entered { IfOk result (λ made. reply_data made.0 ≡ reply_data reply.now) }
-    ensures kept { IfOk result (λ made. IfSome call (λ copied. IsSomeAnd made.1 (λ k. (call_data k.0 ≡ call_data copied) × (reply_data k.1 ≡ reply_data reply.now)))) }
+    ensures kept { IfOk result (λ made. IfSome call (λ owner. IsSomeAnd made.1 (λ k. (arc_value k.0 ≡ arc_value owner) × (reply_data k.1 ≡ reply_data reply.now)))) }
     ensures light { tells_of_change (reply_data reply.now) ≡ true → is_ok result ≡ true }
 {
     let entered = reply.copy()?;

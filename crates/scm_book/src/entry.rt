@@ -1,6 +1,7 @@
 //! The entries of the journal.
 
 use crate::{Call, Reply};
+use std::sync::Arc;
 
 /// A session's call and the reply to it.
 #[derive(Drop, Debug)]
@@ -8,6 +9,7 @@ pub struct Entry {
     pub session: u16,
     /// How many earlier entries are of this session.
     pub number: u64,
-    pub call: Call,
+    /// Shared with who keeps it too.
+    pub call: Arc<Call>,
     pub reply: Reply,
 }

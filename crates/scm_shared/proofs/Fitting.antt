@@ -1,19 +1,15 @@
 -- Passes that fit a history, and what becomes of them in each step.
-use Rattle.std.proofs.Common.{◌≡◌, ◌≢◌, ◌⊎◌, ℕ, zero, suc, ◌+◌, ◌<◌, ◌≤◌, List, [], ◌∷◌, ◌++◌, length, set, Bool, true, false, true≢false, refl, sym, ap, ◌∙◌, subst, ⊎_elim, arith, length-append}
-use mathlib.Core.Option.{some}
+use Rattle.std.proofs.Common.{◌≡◌, ◌≢◌, ℕ, ◌+◌, ◌≤◌, List, [], ◌∷◌, ◌++◌, length, true, false, true≢false, refl, sym, ap, ◌∙◌, arith, length-append}
 use mathlib.Core.Logic.{dite}
-use mathlib.Core.List.{IsPrefix}
-use native.Mathlib.Decide.{ℕ_discrete, dec_lt}
-use lib.ListN.{get_elem?}
-use Rattle.atomic_table.proofs.Lists.{at_set}
+use native.Mathlib.Decide.{dec_lt}
 use Rattle.scm_book.specs.Calls.{EntryData}
 use Rattle.scm_book.specs.Callers.{calls_by}
-use Rattle.scm_book.specs.laws.CallerLaws.{calls_by-append, calls_by-entry_own, calls_by-entry_other}
-use Rattle.scm_shared.specs.Passes.{Known, known, newcomer, at_front}
-use Rattle.scm_shared.specs.Rule.{SeatView, keeper, holder, nobody, Fits, AllFit, AllGiven, FitsView, holds}
-use Rattle.scm_shared.specs.Steps.{but_last, last_only, caught_up, called, all_called, all_caught_up, all_at_front}
-use Rattle.scm_shared.proofs.Sums.{times, mark, mark-same, mark-other, times-cons, times-append, times-one}
-use Rattle.scm_shared.proofs.Prefixes.{prefix_whole, prefix_nothing, prefix_longer, prefix_length}
+use Rattle.scm_book.specs.laws.CallerLaws.{calls_by-entry_own, calls_by-entry_other}
+use Rattle.scm_shared.specs.Passes.{Known, newcomer, at_front}
+use Rattle.scm_shared.specs.Rule.{Fits, AllFit, AllGiven}
+use Rattle.scm_shared.specs.Steps.{but_last, last_only, caught_up, called, all_caught_up, all_at_front}
+use Rattle.scm_shared.proofs.Sums.{times, mark-same, times-cons}
+use Rattle.scm_shared.proofs.Prefixes.{prefix_whole, prefix_nothing, prefix_longer}
 
 pub off : false ≡ true → ⊥
 off e = true≢false (sym e)

@@ -1,5 +1,5 @@
 -- Each step keeps the rule of the counting word.
-use Rattle.std.proofs.Common.{◌≡◌, ◌≢◌, ◌⊎◌, ℕ, zero, suc, ◌+◌, ◌≤◌, ◌<◌, List, [], ◌∷◌, ◌++◌, length, set, Bool, true, false, ◌==◌, refl, sym, ap, ◌∙◌, subst, ⊎_elim, arith, length-append, inl, inr}
+use Rattle.std.proofs.Common.{◌≡◌, ◌≢◌, ℕ, zero, suc, ◌+◌, List, [], ◌∷◌, ◌++◌, length, set, true, ◌==◌, refl, sym, ap, ◌∙◌, subst, ⊎_elim, arith, length-append}
 use Rattle.std.specs.Prelude.{slice_index}
 use Rattle.std.specs.List.{sum_by}
 use Rattle.std.proofs.lemmas.Bool.{eq-eqb}
@@ -16,9 +16,9 @@ use Rattle.scm_book.specs.Calls.{EntryData, entry_data}
 use Rattle.scm_book.specs.Callers.{calls_by}
 use Rattle.scm_book.specs.laws.CallerLaws.{calls_by-entry_other}
 use Rattle.scm_shared.specs.Passes.{Known, newcomer}
-use Rattle.scm_shared.specs.Rule.{SeatView, keeper, holder, nobody, Fits, AllFit, AllGiven, FitsView, holds, KeptAs, Kept}
+use Rattle.scm_shared.specs.Rule.{SeatView, keeper, holder, nobody, AllGiven, FitsView, holds, KeptAs, Kept}
 use Rattle.scm_shared.specs.Steps.{with_one_more, next_newcomer, both, staying, parted, called, with_entry, TellsCommit, all_caught_up, TellsHistory, all_at_front, TellsFront}
-use Rattle.scm_shared.proofs.Sums.{sum_by-set, at_most_sum_by, two_at_most_sum_by, times, mark, mark-same, mark-other, times-append, times-one}
+use Rattle.scm_shared.proofs.Sums.{sum_by-set, at_most_sum_by, two_at_most_sum_by, mark, mark-same, mark-other, times-append, times-one}
 use Rattle.scm_shared.proofs.Fitting.{off, AllFit-append, AllFit-but_last, AllFit-last_only, times-parted, newcomer_fits, AllFit-caught_up, times-caught_up, AllFit-at_front, times-at_front, called_fits, AllFit-others, AllGiven-none_late}
 
 -- the rule of the table

@@ -1,15 +1,14 @@
 -- What a call adds to what its pass knows.
-use Rattle.std.proofs.Common.{◌≡◌, ℕ, ◌+◌, ◌-◌, ◌<◌, List, [], ◌∷◌, ◌++◌, length, map, get_or, refl, sym, ap, ◌∙◌, subst, arith, length-append}
+use Rattle.std.proofs.Common.{◌≡◌, ℕ, ◌+◌, ◌-◌, List, [], ◌∷◌, ◌++◌, length, map, get_or, refl, sym, ap, ◌∙◌, subst, arith, length-append}
 use Rattle.std.proofs.lemmas.List.{map-append, length-map}
 use Rattle.std.proofs.Math.ListN.{get_or-map}
 use Rattle.std.proofs.Math.Seq.{get_or-append_seam}
+use Rattle.std.specs.Arc.{arc_value}
 use Rattle.scm_book.specs.declared.entry.Entry.{Entry}
-use Rattle.scm_book.specs.declared.call.Call.{Call}
-use Rattle.scm_book.specs.declared.reply.Reply.{Reply}
-use Rattle.scm_book.specs.Calls.{CallData, ReplyData, EntryData, call_data, reply_data, entry_data}
+use Rattle.scm_book.specs.Calls.{CallData, ReplyData, EntryData, KeptCall, kept_data, call_data, reply_data, entry_data}
 use Rattle.scm_book.specs.Machine.{Machine}
 use Rattle.scm_book.specs.Journal.{entered, IsLegalHistory}
-use Rattle.scm_book.specs.Callers.{calls_by, pair_data, IsHistory}
+use Rattle.scm_book.specs.Callers.{calls_by}
 use Rattle.scm_book.specs.laws.CallerLaws.{calls_by-entry_own}
 use Rattle.scm_shared.specs.Passes.{Known, known, Extended}
 use Rattle.scm_shared.specs.Rule.{Fits}
@@ -38,10 +37,10 @@ extended old log now machine call reply number made seen front fit is legal same
     }
 
 -- one more call is kept
-pub kept_more : (old pushed : List (Call × Reply)) (one : Call × Reply) (call : CallData) (reply : ReplyData) (made : List (CallData × ReplyData))
-    → pushed ≡ old ++ one ∷ [] → map pair_data old ≡ made → call_data one.0 ≡ call → reply_data one.1 ≡ reply → map pair_data pushed ≡ made ++ (call, reply) ∷ []
+pub kept_more : (old pushed : List KeptCall) (one : KeptCall) (call : CallData) (reply : ReplyData) (made : List (CallData × ReplyData))
+    → pushed ≡ old ++ one ∷ [] → map kept_data old ≡ made → call_data (arc_value one.0) ≡ call → reply_data one.1 ≡ reply → map kept_data pushed ≡ made ++ (call, reply) ∷ []
 kept_more old pushed one call reply made is was called replied =
-    ap (map pair_data) is ∙ map-append pair_data old (one ∷ []) ∙ (λ i. was i ++ (called i, replied i) ∷ [])
+    ap (map kept_data) is ∙ map-append kept_data old (one ∷ []) ∙ (λ i. was i ++ (called i, replied i) ∷ [])
 
 -- the entry that stands last in the journal is the new one
 pub committed : (entries : List Entry) (entry : Entry) (place : ℕ) (other : Entry) (log now : List EntryData) (last : EntryData)

@@ -1,16 +1,13 @@
 -- An audit that goes over the journal once: how many of its session's entries each pass has met so far.
 use Rattle.std.specs.Prelude.{ℕ, ◌≡◌, ◌<◌, ◌≤◌, List, length, map, get_or, Some, slice_get, slice_index}
 use Rattle.scm_sequences.specs.declared.limits.TheConstants.{MOST_SESSIONS}
-use Rattle.scm_book.specs.declared.call.Call.{Call}
-use Rattle.scm_book.specs.declared.reply.Reply.{Reply}
-use Rattle.scm_book.specs.Calls.{EntryData}
-use Rattle.scm_book.specs.Callers.{pair_data}
+use Rattle.scm_book.specs.Calls.{EntryData, KeptCall, kept_data}
 use Rattle.scm_shared.specs.Passes.{Known}
 use Rattle.scm_shared.specs.Audits.{pair_of}
 
 -- the next call that was kept is that of the entry
-abbrev pub IsNext : List (Call × Reply) → ℕ → EntryData → Type 0
-IsNext kept next entry = slice_get (map pair_data kept) next ≡ Some (pair_of entry)
+abbrev pub IsNext : List KeptCall → ℕ → EntryData → Type 0
+IsNext kept next entry = slice_get (map kept_data kept) next ≡ Some (pair_of entry)
 
 -- the passes are those of the first sessions, in the order of their numbers
 pub record AreInOrder (passes : List Known) : Type 0 where

@@ -1,29 +1,30 @@
 //! Whether what passes kept is what the journal has.
 ghost use Rattle.std.specs.Prelude.{◌≡◌, ◌↔◌, IsTrue, map};
-ghost use Rattle.scm_book.specs.Calls.{entry_data};
-ghost use Rattle.scm_book.specs.Callers.{calls_by, pair_data};
+ghost use Rattle.scm_book.specs.Calls.{entry_data, kept_data};
+ghost use Rattle.scm_book.specs.Callers.{calls_by};
 ghost use Rattle.scm_shared.specs.Audits.{pair_of};
 ghost use Rattle.scm_shared.specs.Meeting.{IsNext};
 
 use scm_book::{Call, Entry, Reply};
+use std::sync::Arc;
 
 /// Whether this is the call and the reply of the entry.
-fn is_of_entry(kept: &(Call, Reply), entry: &Entry) -> bool
-    ensures { IsTrue result ↔ (pair_data kept.now ≡ pair_of (entry_data entry.now)) }
+fn is_of_entry(kept: &(Arc<Call>, Reply), entry: &Entry) -> bool
+    ensures { IsTrue result ↔ (kept_data kept.now ≡ pair_of (entry_data entry.now)) }
 {
     kept.0 == entry.call && kept.1 == entry.reply
 }
 
 /// Whether this is the call and the reply of the next that was kept.
-pub(crate) fn is_next(kept: &[(Call, Reply)], next: usize, entry: &Entry) -> bool
+pub(crate) fn is_next(kept: &[(Arc<Call>, Reply)], next: usize, entry: &Entry) -> bool
     ensures { IsTrue result ↔ IsNext kept.now next (entry_data entry.now) }
 {
     next < kept.len() && is_of_entry(&kept[next], entry)
 }
 
 /// Whether these are just the calls and replies of a session's entries, in order.
-pub(crate) fn follows(session: u16, kept: &[(Call, Reply)], entries: &[Entry]) -> bool
-    ensures { IsTrue result ↔ (map pair_data kept.now ≡ calls_by session (map entry_data entries.now)) }
+pub(crate) fn follows(session: u16, kept: &[(Arc<Call>, Reply)], entries: &[Entry]) -> bool
+    ensures { IsTrue result ↔ (map kept_data kept.now ≡ calls_by session (map entry_data entries.now)) }
 {
     let mut next = 0;
     for entry in entries {

@@ -1,12 +1,13 @@
 //! What a caller holds.
 ghost use Rattle.std.specs.Prelude.{◌≡◌, ◌≤◌, length, map};
-ghost use Rattle.scm_book.specs.Callers.{pair_data};
+ghost use Rattle.scm_book.specs.Calls.{kept_data};
 
 use crate::word::View;
 use crate::{BookNaming, Made};
 use atomic_table::Badge;
 use scm_book::{Call, Reply};
 use std::marker::{Model, PhantomData};
+use std::sync::Arc;
 use std::sync::ledger::Share;
 
 /// The right to call a shared book as one session. It keeps the calls that became entries, with their replies.
@@ -16,7 +17,7 @@ use std::sync::ledger::Share;
 #[derive(Drop)]
 pub struct Pass<B: BookNaming> {
     pub(crate) number: u16,
-    pub(crate) kept: Vec<(Call, Reply)>,
+    pub(crate) kept: Vec<(Arc<Call>, Reply)>,
     pub(crate) front: u64,
     pub(crate) badge: Badge<View>,
     pub(crate) share: Share<Made<B>>,
@@ -25,17 +26,17 @@ pub struct Pass<B: BookNaming> {
 
 impl<B: BookNaming> Model for Pass<B> {
     ghost use Rattle.std.specs.Prelude.{◌≡◌, ◌≤◌, length, map};
-    ghost use Rattle.scm_book.specs.Callers.{pair_data};
+    ghost use Rattle.scm_book.specs.Calls.{kept_data};
     ghost use Rattle.scm_shared.specs.Passes.{Known, known};
     ghost use Rattle.scm_shared.specs.Seats.{known_in, IsPassOf};
 
     ghost Value = { Known };
 
-    ghost view = { λ p. known p.number (map pair_data p.kept.items) (known_in p.badge.views).seen p.front };
+    ghost view = { λ p. known p.number (map kept_data p.kept.items) (known_in p.badge.views).seen p.front };
 
     ghost invariant = { λ p.
         (p.badge.table_id ≡ B.table)
-        × IsPassOf p.badge.views (known p.number (map pair_data p.kept.items) (known_in p.badge.views).seen p.front)
+        × IsPassOf p.badge.views (known p.number (map kept_data p.kept.items) (known_in p.badge.views).seen p.front)
         × (length (known_in p.badge.views).seen ≤ p.front)
         × (p.share.parts ≡ 1)
         × (p.share.amount ≡ length p.kept.items) };
@@ -57,8 +58,8 @@ impl<B: BookNaming> Pass<B> {
     }
 
     /// The calls that became entries, with their replies, in order.
-    pub fn kept(&self) -> &[(Call, Reply)]
-        ensures { map pair_data result.now ≡ self.now.made }
+    pub fn kept(&self) -> &[(Arc<Call>, Reply)]
+        ensures { map kept_data result.now ≡ self.now.made }
     {
         &self.kept
     }

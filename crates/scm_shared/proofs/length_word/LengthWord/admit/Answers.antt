@@ -1,4 +1,4 @@
-use Rattle.std.proofs.Common.{◌≡◌, rules, arith, ap}
+use Rattle.std.proofs.Common.{rules, arith, ap}
 use Rattle.scm_shared.proofs.Moves.{enters}
 use Rattle.scm_shared.proofs.length_word.LengthWord.admit.Goals as goal
 

@@ -1,4 +1,4 @@
-use Rattle.std.proofs.Common.{◌≡◌, rules, arith, ap}
+use Rattle.std.proofs.Common.{rules, arith, ap}
 use Rattle.scm_shared.specs.Seats.{known_in}
 use Rattle.scm_shared.proofs.Moves.{learns_as}
 use Rattle.scm_shared.proofs.Seating.{joined}

@@ -1,4 +1,4 @@
-use Rattle.std.proofs.Common.{◌≡◌, ◌+◌, ◌<◌, ℕ, List, [], ◌∷◌, ◌++◌, length, map, map-id, length-append, sym, ap, ◌∙◌, subst, rules, arith}
+use Rattle.std.proofs.Common.{◌<◌, ℕ, List, [], ◌∷◌, length, map, map-id, length-append, ap, ◌∙◌, subst, rules, arith}
 use Rattle.std.proofs.lemmas.List.Sums.{sum_by_push}
 use Rattle.scm_book.specs.Calls.{EntryData, entry_data}
 use Rattle.std.specs.Prelude.{All}

@@ -1,8 +1,6 @@
 use Rattle.std.proofs.Common.{◌≡◌, ℕ, List, [], ◌∷◌, ◌++◌, length, refl, sym, ap, ◌∙◌, subst}
 use Rattle.std.proofs.lemmas.List.{length-map}
-use Rattle.scm_book.specs.declared.call.Call.{Call}
-use Rattle.scm_book.specs.declared.reply.Reply.{Reply}
-use Rattle.scm_book.specs.Calls.{EntryData, call_data, reply_data, entry_data}
+use Rattle.scm_book.specs.Calls.{EntryData, KeptCall, call_data, reply_data, entry_data}
 use Rattle.scm_book.specs.Journal.{entered}
 use Rattle.scm_shared.specs.Passes.{Known}
 use Rattle.scm_shared.specs.Rule.{Fits, SeatView}
@@ -20,7 +18,7 @@ returns-in-Some-clause-made g c makes =
     let entry = c.call_kept-reply.ensures.called.entry makes ∙ ap (λ (n : ℕ). entered log n (call_data c.args.call) (reply_data c.call_kept-reply.result.0)) number in
     let kept = rw c.in-Some.is at c.call_kept-reply.ensures.kept in
     let items : c.push_reserved.new.self.items ≡ c.pass.inside.kept.items ++ c.in-Some.kept ∷ [] =
-    ◌∙◌ {A = List (Call × Reply)} c.push_reserved.ensures.items (ap (λ (l : List (Call × Reply)). l ++ c.in-Some.kept ∷ []) c.reserve.ensures.items) in
+    ◌∙◌ {A = List KeptCall} c.push_reserved.ensures.items (ap (λ (l : List KeptCall). l ++ c.in-Some.kept ∷ []) c.reserve.ensures.items) in
     let made = kept_more c.pass.inside.kept.items c.push_reserved.new.self.items c.in-Some.kept (call_data c.args.call) (reply_data c.call_kept-reply.result.0) c.args.pass.now.made items
     (ap (λ (k : Known). k.made) c.pass.view_is) kept.same_call kept.same_reply in
     let all = committed c.entries-entries.result.now c.index-entries-count.result _ _ log c.call_kept-reply.new.self.journal _ c.entries-entries.ensures.entries (c.call_kept-reply.ensures.called.entry makes) refl c.index-entries-count.is in
