@@ -95,6 +95,7 @@ fn reopened(rt: HostRuntime) {
     deliver(&rt, rt.alloc(), &mut book, &outcome, Fate::Accepted);
     deliver(&rt, rt.alloc(), &mut book, &outcome, Fate::Known);
     play(&rt, rt.alloc(), &mut book, "ask t => consistent 0");
+    drop(book);
 }
 
 fn assert_comes_again(rt: &impl Abort, first: &Task, second: &Task, third: &Task) {
@@ -136,6 +137,7 @@ fn full_then_room(rt: HostRuntime) {
     overfill(&rt, rt.alloc(), &mut book, first, &second);
     play(&rt, rt.alloc(), &mut book, "raise t 5");
     deliver(&rt, rt.alloc(), &mut book, &second, Fate::Accepted);
+    drop(book);
 }
 
 /// It leads nowhere.
@@ -156,6 +158,7 @@ fn no_step(rt: HostRuntime) {
     let outcome = next_illegal(&rt, &mut book);
     deliver(&rt, rt.alloc(), &mut book, &outcome, Fate::Known);
     assert_nothing_to_take(&rt, &mut book);
+    drop(book);
 }
 
 /// Process 0 stores 1 in x.
@@ -184,6 +187,7 @@ fn late_outcome(rt: HostRuntime) {
         "do t 1 lw x 2; ask t => consistent 01",
     );
     deliver(&rt, rt.alloc(), &mut book, &outcome, Fate::Stale);
+    drop(book);
 }
 
 /// What workers found out about the stores.
@@ -206,6 +210,7 @@ fn steps_kept(rt: HostRuntime) {
     let spared = steps_to_ask(&rt, &mut book, "inconsistent");
     assert!(rt; 0 < made && made <= 14 && book.steps() == made);
     assert!(rt; [again, refuting, spared] == [0, 0, 0]);
+    drop(book);
 }
 
 /// Calls of Anna, with a taking and a delivery between them.

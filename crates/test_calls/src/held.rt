@@ -1,8 +1,8 @@
 //! That what workers sent is delivered, though they were told to end before.
 ghost use Rattle.std.specs.Prelude.{◌≡◌};
 
-use crate::again::{MOST_TURNS, rises_to};
 use crate::shared_workers::{accounted, assert_answer, buffered};
+use crate::waiting::{is_set, rises_to};
 use scm_book::Book;
 use scm_expand::{FreeGate, Gate, Outcome, Task, TaskSource, Work, run_workers};
 use scm_results::Tally;
@@ -33,15 +33,6 @@ impl<'a, B: BookNaming> Held<'a, B> {
             deliveries: AtomicU64::new(0),
             waits: AtomicU64::new(0),
             is_open: AtomicBool::new(false),
-        }
-    }
-
-    fn hold(&self) {
-        for _ in 0..MOST_TURNS {
-            if self.is_open.load(Ordering::SeqCst) {
-                return;
-            }
-            thread::yield_now();
         }
     }
 
@@ -82,7 +73,7 @@ impl<B: BookNaming> TaskSource<B> for Held<'_, B> {
 
     fn deliver<R: Wait>(&self, rt: &R, outcomes: Vec<Outcome>, tally: &mut Tally<B>) {
         self.deliveries.fetch_add(1, Ordering::SeqCst);
-        self.hold();
+        let _ = is_set(&self.is_open);
         self.shared.deliver(rt, outcomes, tally);
     }
 
@@ -135,5 +126,6 @@ fn outcomes_in_the_channel_are_delivered_at_the_end(rt: HostRuntime) -> Result<(
     let results = book.results();
     assert!(rt; results.taken == 2 && results.accepted == 2 && results.delivered() == 2);
     assert_answer(&rt, rt.alloc(), &mut book, "inconsistent");
+    drop(book);
     Ok(())
 }

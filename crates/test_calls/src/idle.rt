@@ -1,6 +1,7 @@
 //! That workers with nothing to do wait.
 ghost use Rattle.std.specs.Prelude.{◌≡◌};
 
+use crate::waiting::MOST_TURNS;
 use scm_expand::{Bell, FreeGate, Outcome, Task, TaskSource, run_workers};
 use scm_results::{Naming, Tally, Token, Totals};
 use scm_sequences::NoMemory;
@@ -12,8 +13,6 @@ use std::sync::{Mutex, Wait};
 use std::test::Fail;
 use std::thread;
 use std::thread::Threads;
-
-const MOST_TURNS: u64 = 1_000_000_000;
 
 /// A source that has no tasks, and counts how often workers look for some and wait.
 #[derive(Drop)]

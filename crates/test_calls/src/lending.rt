@@ -2,7 +2,7 @@
 
 use crate::deliveries::add_call;
 use crate::words::{ANNA, call_of, name, play, played, says};
-use scm_book::{Book, Event, Loan, Plan, Reply, run_events};
+use scm_book::{Book, Call, Event, Loan, Plan, Reply, run_events};
 use scm_frontier::Steps;
 use std::alloc::Global;
 use std::process::Abort;
@@ -83,6 +83,7 @@ fn what_was_found_spares_the_question(rt: HostRuntime) {
     book.take_back(loan);
     assert_held(&rt, &book, SITUATIONS);
     assert_spared(&rt, &mut book);
+    drop(book);
 }
 
 #[test]
@@ -91,6 +92,7 @@ fn a_lost_question_is_asked_anew(rt: HostRuntime) {
     let _ = searched(&rt, rt.alloc(), &mut book);
     assert_searched(&rt, &mut book);
     assert_held(&rt, &book, SITUATIONS);
+    drop(book);
 }
 
 /// What happens to a trace while a question about it is away: how it was opened, the calls meanwhile, from which store on it
@@ -137,6 +139,7 @@ fn a_closed_trace_takes_nothing_back(rt: HostRuntime) {
     play(&rt, rt.alloc(), &mut book, "close t");
     book.take_back(loan);
     assert!(rt; book.held(&name(&rt, b"t")).is_none());
+    drop(book);
 }
 
 /// The budget is spent, and raised while the question is away: the next one goes on from there.
@@ -154,6 +157,7 @@ fn a_raised_budget_goes_on(rt: HostRuntime) {
     let spared = steps_to_ask(&rt, &mut book, "inconsistent");
     let steps = steps_to_ask(&rt, &mut forbidden(&rt, rt.alloc()), "inconsistent");
     assert!(rt; 0 < spared && spared < steps);
+    drop(book);
 }
 
 fn assert_ready(rt: &impl Abort, alloc: Global, book: &mut Book, line: &str) {
@@ -169,16 +173,27 @@ fn nothing_is_lent_where_the_answer_is_there(rt: HostRuntime) {
         assert_ready(&rt, rt.alloc(), &mut book, line);
     }
     assert_held(&rt, &book, SITUATIONS);
+    drop(book);
+}
+
+/// The reply that the plan of a question carries.
+fn carried(rt: &impl Abort, book: &mut Book, ask: &Call) -> Reply {
+    match book.plan(ask) {
+        Plan::Ready(Some(known)) => known,
+        _ => panic!(rt; "a known schedule"),
+    }
 }
 
 /// A known schedule of t is carried by the plan of a question, and answers it with no step.
 fn assert_carried(rt: &impl Abort, alloc: Global, book: &mut Book) {
     let ask = call_of(rt, alloc, "ask t");
-    let Plan::Ready(Some(known)) = book.plan(&ask) else {
-        panic!(rt; "a known schedule");
-    };
+    let known = carried(rt, book, &ask);
     let (reply, kept) = book.call_kept(ANNA, ask, Some(known));
-    assert!(rt; says(&reply, "consistent") && kept.is_some() && book.steps() == 0);
+    let is_consistent = says(&reply, "consistent");
+    drop(reply);
+    let is_kept = kept.is_some();
+    drop(kept);
+    assert!(rt; is_consistent && is_kept && book.steps() == 0);
 }
 
 #[test]
@@ -186,6 +201,7 @@ fn a_known_schedule_is_carried(rt: HostRuntime) {
     let mut book = played(&rt, rt.alloc(), OPEN);
     report_stores(&rt, rt.alloc(), &mut book, 1);
     assert_carried(&rt, rt.alloc(), &mut book);
+    drop(book);
 }
 
 /// Where no schedule was legal, as many operations in another order are judged anew.
@@ -198,6 +214,7 @@ fn a_return_makes_schedules_legal(rt: HostRuntime) {
     report_stores(&rt, rt.alloc(), &mut book, 1);
     play(&rt, rt.alloc(), &mut book, "do t 3 lw x 9");
     assert_carried(&rt, rt.alloc(), &mut book);
+    drop(book);
 }
 
 fn add_event(rt: &impl Abort, events: &mut Vec<Event>, event: Event) {
@@ -236,6 +253,7 @@ fn a_set_comes_back_among_events(rt: HostRuntime) {
     let book = after_events(&rt, rt.alloc(), book, events, &["inconsistent"]);
     assert_held(&rt, &book, SITUATIONS);
     assert!(rt; book.steps() == 0);
+    drop(book);
 }
 
 /// What is lent among events is lost: the start alone stays.
@@ -250,6 +268,7 @@ fn a_set_is_lost_among_events(rt: HostRuntime) {
     add_event(&rt, &mut events, Event::Lend(ask));
     let book = after_events(&rt, rt.alloc(), book, events, &["ok"]);
     assert_held(&rt, &book, 1);
+    drop(book);
 }
 
 /// What comes back to another book, which has no such trace any more, changes nothing.
@@ -262,4 +281,5 @@ fn another_book_takes_nothing(rt: HostRuntime) {
     let book = played(&rt, rt.alloc(), OPEN);
     let book = after_events(&rt, rt.alloc(), book, events, &["ok"]);
     assert!(rt; book.held(&name(&rt, b"t")).is_none() && book.entries().len() == 6);
+    drop(book);
 }

@@ -20,6 +20,8 @@ mod pile;
 #[cfg(test)]
 mod reading;
 #[cfg(test)]
+mod resting;
+#[cfg(test)]
 mod results;
 #[cfg(test)]
 mod shared;
@@ -27,6 +29,8 @@ mod shared;
 mod shared_workers;
 #[cfg(test)]
 mod tallies;
+#[cfg(test)]
+mod waiting;
 #[cfg(test)]
 mod words;
 #[cfg(test)]

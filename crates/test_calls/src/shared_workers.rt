@@ -3,6 +3,7 @@ ghost use Rattle.std.specs.Prelude.{◌≡◌};
 
 use crate::expand::expanded;
 use crate::shared::entered;
+use crate::waiting::{MOST_TURNS, is_set};
 use crate::words::{call_of, says};
 use scm_book::Book;
 use scm_expand::{FreeGate, Gate, Outcome, TaskSource, run_workers};
@@ -17,8 +18,6 @@ use std::test::Fail;
 use std::thread;
 use std::thread::Threads;
 
-const MOST_TURNS: u64 = 1_000_000_000;
-
 /// Opens t with the cells x and y, and claims its two processes.
 const OPEN: &str = "open t 2 100 x y; claim t 0; claim t 1";
 
@@ -26,7 +25,7 @@ const OPEN: &str = "open t 2 100 x y; claim t 0; claim t 1";
 const STORE_BUFFERING: &str = "do t 0 sw x 1; do t 0 lw y 0; do t 1 sw y 1; do t 1 lw x 0";
 
 /// Makes the calls of a text, each of which is answered what stands behind its arrow, or `ok`.
-fn play<B: BookNaming, R: Wait + Abort>(
+pub(crate) fn play<B: BookNaming, R: Wait + Abort>(
     rt: &R,
     alloc: Global,
     shared: &SharedBook<B>,
@@ -147,6 +146,7 @@ fn worked_off(rt: HostRuntime) -> Result<(), Fail> {
     assert!(rt; book.results().accepted == 7);
     assert_answer(&rt, rt.alloc(), &mut book, "inconsistent");
     assert!(rt; book.steps() == 0);
+    drop(book);
     Ok(())
 }
 
@@ -157,32 +157,34 @@ fn loads_are_worked_off(rt: HostRuntime) -> Result<(), Fail> {
     let steps = book.steps();
     assert_answer(&rt, rt.alloc(), &mut book, "inconsistent");
     assert!(rt; book.steps() == steps);
+    drop(book);
     Ok(())
 }
 
-/// Holds workers until it is opened.
+/// Holds workers, who have nothing in hand, until it is opened.
 #[derive(Drop)]
-struct Barrier {
-    came: AtomicBool,
-    open: AtomicBool,
+pub(crate) struct Barrier {
+    pub(crate) came: AtomicBool,
+    pub(crate) open: AtomicBool,
+    pub(crate) left: AtomicBool,
+}
+
+impl Barrier {
+    pub(crate) fn new() -> Barrier {
+        Barrier {
+            came: AtomicBool::new(false),
+            open: AtomicBool::new(false),
+            left: AtomicBool::new(false),
+        }
+    }
 }
 
 impl Gate for Barrier {
     fn before_expand(&self, _worker: usize) {
         self.came.store(true, Ordering::SeqCst);
         let _ = is_set(&self.open);
+        self.left.store(true, Ordering::SeqCst);
     }
-}
-
-/// Whether it is set in the end.
-fn is_set(flag: &AtomicBool) -> bool {
-    for _ in 0..MOST_TURNS {
-        if flag.load(Ordering::SeqCst) {
-            return true;
-        }
-        thread::yield_now();
-    }
-    false
 }
 
 /// A report and a question are answered while a worker is held.
@@ -212,10 +214,7 @@ fn call_meanwhile<B: BookNaming + Send + Sync, R: Threads + Wait + Abort + Sync>
     requires made { (token.made.name ≡ B.made) × (token.made.parts ≡ B.seats) }
     requires totals { (token.totals.taken.name ≡ B.taken) × (token.totals.delivered.name ≡ B.delivered) × (token.totals.taken.parts ≡ B.parts) }
 {
-    let barrier = Barrier {
-        came: AtomicBool::new(false),
-        open: AtomicBool::new(false),
-    };
+    let barrier = Barrier::new();
     let shared = SharedBook::<B>::new(alloc, token);
     let mut pass = buffered(rt, alloc, &shared);
     let (_, tallies) = thread::join(
@@ -236,6 +235,7 @@ fn call_meanwhile<B: BookNaming + Send + Sync, R: Threads + Wait + Abort + Sync>
 fn report_during_expand(rt: HostRuntime) -> Result<(), Fail> {
     let book = call_meanwhile::<Brand, _>(&rt, rt.alloc(), BookToken::new(rt.alloc())?);
     assert!(rt; book.results().delivered() >= 1);
+    drop(book);
     Ok(())
 }
 

@@ -72,6 +72,7 @@ fn work_spares_the_question(rt: HostRuntime) {
     assert_held(&rt, &book, SITUATIONS);
     assert_spared(&rt, &mut book);
     assert_worked_off(&rt, &mut book);
+    drop(book);
 }
 
 /// A set is lent, worked on once and given back, and some work is left.
@@ -89,6 +90,7 @@ fn work_that_is_given_back_is_gone_on_with(rt: HostRuntime) {
         lend_once(&rt, &mut book);
         assert_held(&rt, &book, times * AT_ONCE + 1);
     }
+    drop(book);
 }
 
 /// Work may be wanted, and no question waits for a set.
@@ -108,6 +110,7 @@ fn a_set_is_lent_once(rt: HostRuntime) {
     assert!(rt; awaits(&rt, rt.alloc(), &mut book, "ask t"));
     book.take_back(loan);
     assert_wants_work(&rt, rt.alloc(), &mut book);
+    drop(book);
 }
 
 /// A set is lent, and lost. Then the question waits for it.
@@ -123,6 +126,7 @@ fn what_is_explained_wants_no_work(rt: HostRuntime) {
     play(&rt, rt.alloc(), &mut book, FORBIDDEN);
     assert!(rt; book.may_want_work());
     lose(&rt, rt.alloc(), &mut book);
+    drop(book);
 }
 
 /// The trace is explained as it stood at mark 0, and not as it is.
@@ -139,4 +143,5 @@ fn a_question_that_is_explained_awaits_nothing(rt: HostRuntime) {
     play(&rt, rt.alloc(), &mut book, FORBIDDEN);
     lose(&rt, rt.alloc(), &mut book);
     assert!(rt; !awaits(&rt, rt.alloc(), &mut book, "ask t 0"));
+    drop(book);
 }

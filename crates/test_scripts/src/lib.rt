@@ -21,8 +21,6 @@ mod replays;
 #[cfg(test)]
 mod reply_texts;
 #[cfg(test)]
-mod resting;
-#[cfg(test)]
 mod runs;
 #[cfg(test)]
 mod scripts;

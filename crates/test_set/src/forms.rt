@@ -245,6 +245,7 @@ fn read_on(rt: &impl Abort, alloc: Global) {
     for i in 0..20 {
         read_once(rt, alloc, &mut asked, i);
     }
+    drop(asked);
 }
 
 /// Read `i` of these.
@@ -297,6 +298,7 @@ fn store_on(rt: &impl Abort, alloc: Global, course: Course) {
             assert!(rt; is_right_at_the_end(rt, alloc, &mut asked));
         }
     }
+    drop(asked);
 }
 
 #[test]
@@ -345,6 +347,7 @@ fn take_turns(rt: &impl Abort, alloc: Global, procs: usize, n: u8, forms: [Form;
     assert!(rt; 2 <= procs && procs <= MOST_PROCESSES);
     let mut asked = Asked::new(rt, alloc, &cells(rt, alloc, n), procs);
     swap_in_turns(rt, alloc, &mut asked, forms);
+    drop(asked);
 }
 
 #[test]
@@ -389,7 +392,9 @@ fn is_right_of_two(rt: &impl Abort, alloc: Global, asked: &mut Asked, more: u8) 
 fn is_filled(rt: &impl Abort, alloc: Global, (n, times, more, wanted): (u8, u8, u8, Form)) -> bool {
     let mut asked = Asked::new(rt, alloc, &cells(rt, alloc, n), MOST_PROCESSES);
     fill(rt, alloc, &mut asked, times, more, wanted);
-    is_right_of_two(rt, alloc, &mut asked, more)
+    let is_right = is_right_of_two(rt, alloc, &mut asked, more);
+    drop(asked);
+    is_right
 }
 
 #[test]
@@ -459,5 +464,6 @@ fn generated_traces_are_judged_as_by_a_plain_list(rt: HostRuntime) {
     for _ in 0..150 {
         let mut asked = Asked::new(&rt, rt.alloc(), &cells(&rt, rt.alloc(), 3), 3);
         report_all_next(&rt, rt.alloc(), &mut asked, &mut numbers);
+        drop(asked);
     }
 }

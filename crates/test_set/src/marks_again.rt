@@ -61,6 +61,7 @@ fn a_mark_is_refused_again_in_no_step(rt: HostRuntime) {
     assert_refused(&rt, rt.alloc(), &mut asked);
     assert_closed_now(&rt, rt.alloc(), &mut asked);
     assert_refused(&rt, rt.alloc(), &mut asked);
+    drop(asked);
 }
 
 #[test]
@@ -70,6 +71,7 @@ fn a_mark_with_a_schedule_is_no_other_one(rt: HostRuntime) {
     assert_whole(&rt, rt.alloc(), &mut asked, [1, 1]);
     assert_refused(&rt, rt.alloc(), &mut asked);
     assert_whole(&rt, rt.alloc(), &mut asked, [1, 2]);
+    drop(asked);
 }
 
 fn go_back(rt: &impl Abort, alloc: Global, asked: &mut Asked, first: [u32; 2], text: &str) {
@@ -86,6 +88,7 @@ fn a_mark_is_looked_at_anew_after_a_return(rt: HostRuntime) {
     assert_whole(&rt, rt.alloc(), &mut asked, [2, 2]);
     go_back(&rt, rt.alloc(), &mut asked, [1, 1], "0Ry0 1Rx0 0Ry9");
     assert_refused(&rt, rt.alloc(), &mut asked);
+    drop(asked);
 }
 
 /// At most three of the first operations of each process.
@@ -129,5 +132,6 @@ fn generated_marks_are_judged_as_by_a_plain_list(rt: HostRuntime) {
         for _ in 0..3 {
             go_on(&rt, rt.alloc(), &mut asked, &mut numbers);
         }
+        drop(asked);
     }
 }

@@ -65,6 +65,7 @@ fn ask_in_turn(rt: &impl Abort, alloc: Global, row: &str) {
     for (limit, wanted) in limits.split(' ').zip(wanted.split(", ")) {
         ask(rt, &mut asked, limit, wanted);
     }
+    drop(asked);
 }
 
 #[test]

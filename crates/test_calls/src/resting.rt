@@ -1,19 +1,20 @@
 //! That workers search a shared book's large sets while its callers rest, and that nobody waits for one who is held.
 ghost use Rattle.std.specs.Prelude.{◌≡◌};
 
+use crate::lending::assert_held;
+use crate::shared::entered;
+use crate::shared_workers::{Barrier, accounted, play};
 use crate::waiting::is_set;
-use scm_book::{Book, Reply};
-use scm_cells::Name;
-use scm_expand::{FreeGate, Gate, TaskSource, run_workers};
+use scm_book::Book;
+use scm_expand::{FreeGate, TaskSource, run_workers};
 use scm_results::Tally;
 use scm_sequences::NoMemory;
-use scm_sessions::read_line;
 use scm_shared::{BookNaming, BookToken, Pass, SharedBook};
 use std::alloc::Global;
 use std::marker::Brand;
 use std::process::Abort;
 use std::sync::Wait;
-use std::sync::atomic::{AtomicBool, AtomicU64, Ordering};
+use std::sync::atomic::{AtomicU64, Ordering};
 use std::test::Fail;
 use std::thread;
 use std::thread::Threads;
@@ -25,58 +26,15 @@ const WORKERS: usize = 2;
 const MOST_MILLIS: u64 = 60_000;
 
 /// A trace u that an empty schedule explains.
-const EMPTY: &str = "a open u 1 100 x:w=0\n";
+const EMPTY: &str = "open u 1 100 x";
 
 /// A load in t of what nobody stores.
-const FORBIDDEN: &str =
-    "a open t 3 5000 x:w=0 y:w=0\na claim t 0\na claim t 1\na claim t 2\na do t 2 lw x 2\n";
+const FORBIDDEN: &str = "open t 3 5000 x y; claim t 0; claim t 1; claim t 2; do t 2 lw x 2";
 
-const STORES: &str = "a do t 0 sw x 1\na do t 1 sw y 1\n";
+const STORES: &str = "do t 0 sw x 1; do t 1 sw y 1";
 
 /// So often both stores are reported. So there are more situations than a worker looks for at once.
 const TIMES: usize = 50;
-
-/// The verdict on the call that this line is.
-fn verdict<B: BookNaming, R: Wait + Abort>(
-    rt: &R,
-    alloc: Global,
-    shared: &SharedBook<B>,
-    pass: &mut Pass<B>,
-    line: &str,
-) -> &'static str {
-    let (_, call) = read_line(alloc, line.as_bytes()).expect(rt, "a call");
-    match shared.call(rt, pass, call) {
-        Reply::Done => "ok",
-        Reply::Consistent { .. } => "consistent",
-        Reply::Inconsistent => "inconsistent",
-        _ => "another",
-    }
-}
-
-/// Calls that are all answered `Done`.
-fn report<B: BookNaming, R: Wait + Abort>(
-    rt: &R,
-    alloc: Global,
-    shared: &SharedBook<B>,
-    pass: &mut Pass<B>,
-    lines: &str,
-) {
-    for line in lines.lines() {
-        assert!(rt; verdict(rt, alloc, shared, pass, line) == "ok");
-    }
-}
-
-/// A new pass that made these calls.
-fn entered<B: BookNaming, R: Wait + Abort>(
-    rt: &R,
-    alloc: Global,
-    shared: &SharedBook<B>,
-    lines: &str,
-) -> Pass<B> {
-    let mut pass = shared.enter(rt).ok().expect(rt, "a pass");
-    report(rt, alloc, shared, &mut pass, lines);
-    pass
-}
 
 /// The book, where the audit of its only pass agrees, and there is a tally of each worker and of the collector.
 fn audited<B: BookNaming>(
@@ -88,31 +46,7 @@ fn audited<B: BookNaming>(
 ) -> Book {
     let passes = vec![in alloc; pass].expect(rt, "memory");
     let audit = shared.audit(passes, tallies.expect(rt, "threads and memory"));
-    assert!(rt; audit.agreed && audit.totals_agreed);
-    assert!(rt; audit.tallies as usize == WORKERS + 1);
-    audit.book
-}
-
-/// How many situations are held for t.
-fn held(rt: &impl Abort, book: &Book) -> usize {
-    let name = Name::read(b"t").expect(rt, "a name");
-    book.held(&name).expect(rt, "t")
-}
-
-/// Holds workers, who have nothing in hand, until it is opened.
-#[derive(Drop)]
-struct Barrier {
-    came: AtomicBool,
-    open: AtomicBool,
-    left: AtomicBool,
-}
-
-impl Gate for Barrier {
-    fn before_expand(&self, _worker: usize) {
-        self.came.store(true, Ordering::SeqCst);
-        let _ = is_set(&self.open);
-        self.left.store(true, Ordering::SeqCst);
-    }
+    accounted(rt, audit, WORKERS as u32 + 1)
 }
 
 /// Reports to t, and asks about u and t, while a worker is held who comes to search the set of t.
@@ -124,9 +58,14 @@ fn call_meanwhile<B: BookNaming, R: Wait + Abort>(
     barrier: &Barrier,
 ) {
     assert!(rt; is_set(&barrier.came));
-    report(rt, alloc, shared, pass, STORES);
-    assert!(rt; verdict(rt, alloc, shared, pass, "a ask u") == "consistent");
-    assert!(rt; verdict(rt, alloc, shared, pass, "a ask t") == "inconsistent");
+    play(rt, alloc, shared, pass, STORES);
+    play(
+        rt,
+        alloc,
+        shared,
+        pass,
+        "ask u => consistent; ask t => inconsistent",
+    );
     assert!(rt; !barrier.left.load(Ordering::SeqCst));
     barrier.open.store(true, Ordering::SeqCst);
 }
@@ -140,16 +79,13 @@ fn hold<B: BookNaming + Send + Sync, R: Threads + Wait + Abort + Sync>(
     requires made { (token.made.name ≡ B.made) × (token.made.parts ≡ B.seats) }
     requires totals { (token.totals.taken.name ≡ B.taken) × (token.totals.delivered.name ≡ B.delivered) × (token.totals.taken.parts ≡ B.parts) }
 {
-    let barrier = Barrier {
-        came: AtomicBool::new(false),
-        open: AtomicBool::new(false),
-        left: AtomicBool::new(false),
-    };
+    let barrier = Barrier::new();
     let shared = SharedBook::<B>::new(alloc, token);
-    let mut pass = entered(rt, alloc, &shared, EMPTY);
-    report(rt, alloc, &shared, &mut pass, FORBIDDEN);
+    let mut pass = entered(rt, &shared);
+    play(rt, alloc, &shared, &mut pass, EMPTY);
+    play(rt, alloc, &shared, &mut pass, FORBIDDEN);
     for _ in 0..TIMES {
-        report(rt, alloc, &shared, &mut pass, STORES);
+        play(rt, alloc, &shared, &mut pass, STORES);
     }
     let (_, tallies) = thread::join(
         rt,
@@ -165,7 +101,8 @@ fn hold<B: BookNaming + Send + Sync, R: Threads + Wait + Abort + Sync>(
 #[test]
 fn calls_while_a_worker_is_held(rt: HostRuntime) -> Result<(), Fail> {
     let book = hold::<Brand, _>(&rt, rt.alloc(), BookToken::new(rt.alloc())?);
-    assert!(rt; held(&rt, &book) == (TIMES + 2) * (TIMES + 2));
+    assert_held(&rt, &book, (TIMES + 2) * (TIMES + 2));
+    drop(book);
     Ok(())
 }
 
@@ -190,11 +127,11 @@ fn rest_and_ask<B: BookNaming, R: Wait + Abort>(
 ) {
     for times in [TIMES, 1] {
         for _ in 0..times {
-            report(rt, alloc, shared, pass, STORES);
+            play(rt, alloc, shared, pass, STORES);
         }
         assert!(rt; is_worked_off(rt, shared));
     }
-    assert!(rt; verdict(rt, alloc, shared, pass, "a ask t") == "inconsistent");
+    play(rt, alloc, shared, pass, "ask t => inconsistent");
 }
 
 fn rest<B: BookNaming + Send + Sync, R: Threads + Wait + Abort + Sync>(
@@ -207,7 +144,8 @@ fn rest<B: BookNaming + Send + Sync, R: Threads + Wait + Abort + Sync>(
     requires totals { (token.totals.taken.name ≡ B.taken) × (token.totals.delivered.name ≡ B.delivered) × (token.totals.taken.parts ≡ B.parts) }
 {
     let shared = SharedBook::<B>::new(alloc, token);
-    let mut pass = entered(rt, alloc, &shared, FORBIDDEN);
+    let mut pass = entered(rt, &shared);
+    play(rt, alloc, &shared, &mut pass, FORBIDDEN);
     let (_, tallies) = thread::join(
         rt,
         || {
@@ -223,6 +161,7 @@ fn rest<B: BookNaming + Send + Sync, R: Threads + Wait + Abort + Sync>(
 fn a_rest_spares_the_question(rt: HostRuntime) -> Result<(), Fail> {
     let book = rest::<Brand, _>(&rt, rt.alloc(), BookToken::new(rt.alloc())?);
     assert!(rt; book.steps() == 0);
-    assert!(rt; held(&rt, &book) == (TIMES + 2) * (TIMES + 2));
+    assert_held(&rt, &book, (TIMES + 2) * (TIMES + 2));
+    drop(book);
     Ok(())
 }
