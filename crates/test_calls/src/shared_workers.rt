@@ -161,7 +161,7 @@ fn loads_are_worked_off(rt: HostRuntime) -> Result<(), Fail> {
     Ok(())
 }
 
-/// Holds workers, who have nothing in hand, until it is opened.
+/// Holds workers until it is opened, and tells that one came, and that one left.
 #[derive(Drop)]
 pub(crate) struct Barrier {
     pub(crate) came: AtomicBool,

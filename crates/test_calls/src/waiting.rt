@@ -4,7 +4,7 @@ use std::sync::atomic::{AtomicBool, AtomicU64, Ordering};
 use std::thread;
 
 /// So often a thread yields to others at most.
-pub(crate) const MOST_TURNS: u64 = 1_000_000_000;
+pub(crate) const MOST_TURNS: u64 = 100_000_000;
 
 /// Whether it is set in the end.
 pub(crate) fn is_set(flag: &AtomicBool) -> bool {

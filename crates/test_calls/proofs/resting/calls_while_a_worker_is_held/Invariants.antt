@@ -1,4 +1,4 @@
-use Rattle.test_scripts.proofs.resting.calls_while_a_worker_is_held.Given as goal
+use Rattle.test_calls.proofs.resting.calls_while_a_worker_is_held.Given as goal
 
 abbrev pub ghosts-hold-B-BookNaming : goal.ghosts-hold-B-BookNaming
 ghosts-hold-B-BookNaming g a = record { table = a.token.table.shared.table_id; made = a.token.made.name; seats = a.token.made.parts }

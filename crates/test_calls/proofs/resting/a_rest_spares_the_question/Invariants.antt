@@ -1,4 +1,4 @@
-use Rattle.test_scripts.proofs.resting.a_rest_spares_the_question.Given as goal
+use Rattle.test_calls.proofs.resting.a_rest_spares_the_question.Given as goal
 
 abbrev pub ghosts-rest-B-BookNaming : goal.ghosts-rest-B-BookNaming
 ghosts-rest-B-BookNaming g a = record { table = a.token.table.shared.table_id; made = a.token.made.name; seats = a.token.made.parts }
