@@ -2,7 +2,7 @@
 
 use crate::deliveries::add_call;
 use crate::words::{ANNA, call_of, name, play, played, says};
-use scm_book::{Book, Call, Event, Loan, Plan, Reply, run_events};
+use scm_book::{Book, Event, Loan, Plan, Reply, run_events};
 use scm_frontier::Steps;
 use std::alloc::Global;
 use std::process::Abort;
@@ -176,18 +176,12 @@ fn nothing_is_lent_where_the_answer_is_there(rt: HostRuntime) {
     drop(book);
 }
 
-/// The reply that the plan of a question carries.
-fn carried(rt: &impl Abort, book: &mut Book, ask: &Call) -> Reply {
-    match book.plan(ask) {
-        Plan::Ready(Some(known)) => known,
-        _ => panic!(rt; "a known schedule"),
-    }
-}
-
 /// A known schedule of t is carried by the plan of a question, and answers it with no step.
 fn assert_carried(rt: &impl Abort, alloc: Global, book: &mut Book) {
     let ask = call_of(rt, alloc, "ask t");
-    let known = carried(rt, book, &ask);
+    let Plan::Ready(Some(known)) = book.plan(&ask) else {
+        panic!(rt; "a known schedule");
+    };
     let (reply, kept) = book.call_kept(ANNA, ask, Some(known));
     let is_consistent = says(&reply, "consistent");
     drop(reply);
