@@ -38,14 +38,12 @@ impl Search {
     pub(crate) fn settle(&mut self, claim: Claim, id: u32) -> Option<()> {
         self.settled.settle(claim.to, id)?;
         self.choices.see(claim)?;
+        self.note_left(claim.to, 1)?;
         if let Some(candidates) = &mut self.candidates {
             let steps = candidates.close(claim.to)?;
             self.burn_for(steps)?;
         }
-        if self.waiting.is_noted() {
-            self.touch(claim.to)?;
-        }
-        Some(())
+        self.waiting.settled(claim.to)
     }
 
     // A read that sees first contents tells what they are.

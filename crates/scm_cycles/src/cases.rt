@@ -126,7 +126,7 @@ impl Search {
         let Some(value) = self.values.found(read) else {
             return Some(());
         };
-        self.burn(self.procs)?;
+        self.burn(1)?;
         let cell = self.numbering.cell(read)?;
         self.visit(read, cell, value)?;
         if self.closing.is_none() {

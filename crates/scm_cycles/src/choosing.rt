@@ -38,31 +38,32 @@ impl Search {
 
     /// The case that is tried next, if there is one.
     pub(crate) fn choose(&mut self) -> Option<Option<Claim>> {
-        self.burn(self.ops / READS_OF_STEP)?;
-        match self.open_read(self.restarts.count)? {
-            Some(read) => Some(Some(self.choose_source(read)?)),
-            None if self.goal == Goal::Schedule => Some(None),
-            None => self.choose_order(),
+        let open = u32::try_from(self.choices.open_reads().len()).ok()?;
+        self.burn(open / READS_OF_STEP)?;
+        if let Some(read) = self.open_read(self.restarts.count)? {
+            return Some(Some(self.choose_source(read)?));
         }
+        if self.goal == Goal::Schedule {
+            return Some(None);
+        }
+        self.burn(self.ops / READS_OF_STEP)?;
+        self.choose_order()
     }
 
     // The read by activity over how much is left, the latter by another power after each restart.
     fn open_read(&self, restarts: u64) -> Option<Option<u32>> {
         let mut best: Option<(u32, u64)> = None;
-        for read in 0..self.ops {
-            let left = self.choices.left(read)?;
-            if left < 2 || self.settled.source(read)?.is_some() {
-                continue;
-            }
-            let weight = self.weight(read, left, restarts)?;
-            if best.is_none_or(|(_, most)| weight > most) {
-                best = Some((read, weight));
+        for read in self.choices.open_reads() {
+            let weight = self.weight(*read, restarts)?;
+            if best.is_none_or(|(first, most)| weight > most || weight == most && *read < first) {
+                best = Some((*read, weight));
             }
         }
         Some(best.map(|(read, _)| read))
     }
 
-    fn weight(&self, read: u32, left: u32, restarts: u64) -> Option<u64> {
+    fn weight(&self, read: u32, restarts: u64) -> Option<u64> {
+        let left = self.choices.left(read)?;
         let part = u64::from(left).saturating_mul(2).saturating_sub(1).max(1);
         let over = match restarts % 3 {
             1 => part.saturating_mul(part),

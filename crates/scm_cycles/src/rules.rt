@@ -4,9 +4,10 @@ use crate::evidence::Goal;
 use crate::search::Search;
 use crate::steps::{Need, Why};
 use crate::views::{Left, View};
+use crate::waiting::News;
 
 /// How many times more a visit of an open read burns than one of another.
-const OPEN_VISIT: u32 = 2;
+const OPEN_VISIT: u32 = 3;
 
 impl Search {
     /// Draws all that follows, round by round, until a cycle is closed or nothing is new. The step that closed it, if one did.
@@ -43,7 +44,9 @@ impl Search {
         if self.closing.is_none()
             && let Some(source) = self.settled.source(read)?
         {
-            self.follow_source(read, cell, source)?;
+            let news = self.waiting.take_news(read)?;
+            self.burn(news.count(self.procs))?;
+            self.follow_source(read, cell, source, news)?;
         }
         Some(())
     }
@@ -158,11 +161,11 @@ impl Search {
     }
 
     // Draws what follows from what is seen.
-    fn follow_source(&mut self, read: u32, cell: u32, source: u32) -> Option<()> {
+    fn follow_source(&mut self, read: u32, cell: u32, source: u32, news: News) -> Option<()> {
         let claim = self.steps.get(source)?.claim;
         match claim.kind {
             Kind::SeesFirst => self.follow_first(read, cell, source),
-            _ => self.follow_write(read, cell, source, claim.from),
+            _ => self.follow_write(read, cell, source, claim.from, news),
         }
     }
 
@@ -181,13 +184,19 @@ impl Search {
     }
 
     // Draws what follows from a write that is seen.
-    fn follow_write(&mut self, read: u32, cell: u32, source: u32, write: u32) -> Option<()> {
+    fn follow_write(
+        &mut self,
+        read: u32,
+        cell: u32,
+        source: u32,
+        write: u32,
+        news: News,
+    ) -> Option<()> {
         for process in 0..self.procs {
-            if self.closing.is_some() {
-                break;
+            if self.closing.is_none() && news.has(process) {
+                self.draw_after_source(read, cell, source, write, process)?;
             }
-            self.draw_after_source(read, cell, source, write, process)?;
-            if self.closing.is_none() {
+            if self.closing.is_none() && news.is_after_source() {
                 self.draw_before_next(read, cell, source, write, process)?;
             }
         }

@@ -335,7 +335,7 @@ impl Search {
             }
             self.burn(1)?;
             self.clocks.set(x, process, count)?;
-            self.waiting.raised(x)?;
+            self.waiting.raised(x, process)?;
             if self.steps.newest(x).is_some() {
                 self.flags.add(x)?;
             }

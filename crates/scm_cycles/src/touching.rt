@@ -65,7 +65,7 @@ impl Search {
             count = count.saturating_add(1);
             let claim = self.steps.get(id)?.claim;
             if claim.kind == Kind::Sees {
-                self.waiting.touch(claim.to, true)?;
+                self.waiting.source_lowered(claim.to)?;
             }
             leaving = self.steps.older(id);
         }

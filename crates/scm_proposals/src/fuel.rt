@@ -9,6 +9,11 @@ const LEAST_FUEL: u64 = 7;
 
 const MOST_FUEL: u64 = 36;
 
+/// How many times as much windows may burn where no word has room for a situation: one in full takes longer to look at.
+const FUEL_IN_FULL: u64 = 3;
+
+const LONGEST_WORD: usize = u128::BITS as usize;
+
 /// The fuel of a search over sources before one that has room for so many situations. There is none where the counts tell no
 /// more apart: the other search mostly settles the question itself then.
 pub(crate) fn fuel_of_search(lengths: &Lengths, room: usize) -> u64 {
@@ -26,4 +31,18 @@ pub(crate) fn fuel_of_search(lengths: &Lengths, room: usize) -> u64 {
         .max(LEAST_FUEL)
         .min(MOST_FUEL);
     (room as u64).saturating_mul(fuel)
+}
+
+/// What windows may burn of a trace of so many cells, for each of which a situation has a bit at least.
+pub(crate) fn fuel_of_windows(lengths: &Lengths, cells: usize, fuel: u64) -> u64 {
+    let mut bits = cells;
+    for process in 0..lengths.procs() {
+        let unused = lengths.get(process).leading_zeros();
+        bits = bits.saturating_add(u32::BITS.saturating_sub(unused) as usize);
+    }
+    if bits > LONGEST_WORD {
+        fuel.saturating_mul(FUEL_IN_FULL)
+    } else {
+        fuel
+    }
 }

@@ -1,7 +1,7 @@
 //! A proposal for a schedule.
 use crate::beginning::Beginning;
 use crate::facts::Facts;
-use crate::fuel::fuel_of_search;
+use crate::fuel::{fuel_of_search, fuel_of_windows};
 use crate::order::Order;
 use crate::walk::Walk;
 use scm_clocks::{Clocks, Given, Part, counts_of};
@@ -143,9 +143,12 @@ impl Proposer<'_> {
             return None;
         }
         drop(walk);
-        if let Some(schedule) = self.complete_by_windows(fuel) {
+        let most = fuel_of_windows(self.lengths, self.initials.len(), *fuel);
+        let mut left = most;
+        if let Some(schedule) = self.complete_by_windows(&mut left) {
             return Some(schedule);
         }
+        *fuel = fuel.saturating_sub(most.saturating_sub(left));
         let mut guess = find_sources(self.alloc, self.given(0)?, 0..SKEWS + 1, fuel)?;
         guess.clocks = Clocks::new(self.alloc, &guess.given.numbering)?;
         self.complete_by(guess, fuel)

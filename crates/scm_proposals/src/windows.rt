@@ -5,11 +5,14 @@ use crate::proposal::Proposer;
 use scm_clocks::{Given, Part};
 use scm_cycles::{Guess, SKEWS, find_sources};
 
-/// How many operations of each process a window has, at least and at most: one without a schedule is followed by one of twice
-/// as many that begins earlier.
-const WIDTH: u32 = 112;
+/// How many operations of each process a window has, at least: so many, and so many for each process. One without a schedule is
+/// followed by one of twice as many that begins earlier.
+const WIDTH: u32 = 96;
 
-const MOST_WIDTH: u32 = 4 * WIDTH;
+const WIDTH_OF_PROCESS: u32 = 2;
+
+/// How many times as many it has at most.
+const MOST_WIDTHS: u32 = 4;
 
 /// Of how many sixteenths of a window it is checked what they found, and how many are kept, in the mean of all processes. What
 /// lies between is looked ahead.
@@ -25,7 +28,7 @@ const FUEL: u64 = 2_000;
 /// For how many windows a trace is long enough, and for how many processes they cost less than the trace as a whole.
 const LEAST_WINDOWS: u32 = 3;
 
-const MOST_PROCESSES: usize = 8;
+const MOST_PROCESSES: usize = 16;
 
 /// What was made so far, how wide the next window is, and the number of the first skew that is supposed there.
 #[derive(Drop)]
@@ -70,13 +73,14 @@ impl Proposer<'_> {
     /// A schedule of a long trace of few processes, none of which gets far ahead of the others.
     pub(crate) fn complete_by_windows(&self, fuel: &mut u64) -> Option<Vec<u8>> {
         let longest = self.counts.iter().copied().max()?;
-        if self.counts.len() > MOST_PROCESSES || longest < LEAST_WINDOWS.saturating_mul(WIDTH) {
+        let width = self.least_width()?;
+        if self.counts.len() > MOST_PROCESSES || longest < LEAST_WINDOWS.saturating_mul(width) {
             return None;
         }
         let mut progress = Progress {
             beginning: Beginning::new(self.alloc, self.initials, self.counts.len())?,
             schedule: Vec::new(self.alloc),
-            width: WIDTH,
+            width,
             rung: 0,
         };
         for _ in 0..*fuel {
@@ -84,12 +88,17 @@ impl Proposer<'_> {
                 return Some(progress.schedule);
             }
             if self.add_window(&mut progress, fuel)? {
-                progress.width = (progress.width / 2).max(WIDTH);
+                progress.width = (progress.width / 2).max(width);
             } else {
                 self.go_back(&mut progress, fuel)?;
             }
         }
         None
+    }
+
+    fn least_width(&self) -> Option<u32> {
+        let procs = u32::try_from(self.counts.len()).ok()?;
+        Some(WIDTH.saturating_add(procs.saturating_mul(WIDTH_OF_PROCESS)))
     }
 
     // Adds the schedule of the next window, as far as it is kept. Whether there is one.
@@ -130,9 +139,13 @@ impl Proposer<'_> {
         guess
     }
 
-    // Takes back as many places as are kept of a window, for one that is twice as wide.
+    // Takes back as many places as are kept of a window, for one that is twice as wide. `None` where that is no more, or there
+    // are none.
     fn go_back(&self, progress: &mut Progress, fuel: &mut u64) -> Option<()> {
-        if progress.width >= MOST_WIDTH {
+        if progress.schedule.is_empty() {
+            return None;
+        }
+        if progress.width >= self.least_width()?.saturating_mul(MOST_WIDTHS) {
             return None;
         }
         let kept = progress.schedule.len().saturating_sub(progress.kept());
