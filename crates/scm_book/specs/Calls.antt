@@ -102,6 +102,7 @@ answer_data (Err refusal) = refused refusal
 abbrev pub KeptCall : Type 0
 KeptCall = Arc Call Global × Reply
 
+-- both as plain data
 abbrev pub kept_data : KeptCall → CallData × ReplyData
 kept_data kept = (call_data (arc_value kept.0), reply_data kept.1)
 

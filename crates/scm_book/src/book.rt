@@ -150,10 +150,10 @@ impl Book {
     }
 
     /// What is to be done before a call is made. Known schedules of what a question is about are judged here, once: a legal
-    /// one is the reply, to be handed to `call_kept` before anything changes. Else a question waits while its set is lent for
-    /// work. Else, where its answer isn't likely to be near, it is lent, to be searched with no book at hand, with the set that
-    /// is kept for its trace; the start alone stays in its place. With no loan everything is as it was, also where memory is
-    /// refused. Neither machine nor journal changes.
+    /// one is the reply, to be handed to `call_kept` before anything changes. Else a question waits while its set is lent.
+    /// Else, where its answer isn't likely to be near, it is lent, to be searched with no book at hand, with the set that is kept
+    /// for its trace; the start alone stays in its place. With no loan everything is as it was, also where memory is refused.
+    /// Neither machine nor journal changes.
     pub fn plan(&mut self, call: &Call) -> Plan
         ensures lends { IsLending self.old (call_data call.now) (loan_in result) self.new }
         ensures known { IsKnown self.new.machine (call_data call.now) (known_in result) }
@@ -210,14 +210,14 @@ impl Book {
         ensures legal { IsLegalBook self.new }
     {
         let mut steps = self.traces.new_counter(&call);
-        let (reply, copies) = self.make(session, call, None, false, &mut steps);
-        drop(copies);
+        let (reply, kept) = self.make(session, call, None, false, &mut steps);
+        drop(kept);
         reply
     }
 
-    /// Makes a call of a session, and gives the entry's call, which it shares, and a copy of the reply where they made an
-    /// entry. They are made before anything changes, but for what a question finds out; where there is no memory for them,
-    /// the call is refused. Where its plan carries a reply, that is the answer.
+    /// Makes a call of a session, and where that makes an entry gives the call, shared with the entry, and a copy of the
+    /// reply too. Where there is no memory for them the call is refused, and nothing changes but what a question finds out.
+    /// Where its plan carries a reply, that is the answer.
     pub fn call_kept(
         &mut self,
         session: u16,
@@ -236,8 +236,8 @@ impl Book {
         self.make(session, call, known, true, &mut steps)
     }
 
-    /// Makes a call of a session, unless its reply is known, and counts the steps of a question. Where it `is_kept` and makes
-    /// an entry, its call, which the entry shares, comes back with a copy of the reply.
+    /// Makes a call of a session, unless its reply is known, and counts the steps of a question. Where the call `is_kept` and
+    /// makes an entry, it comes back, shared with the entry, beside a copy of the reply.
     fn make(
         &mut self,
         session: u16,
@@ -375,8 +375,8 @@ impl Book {
         ensures counted { self.new.steps ≡ capped (self.old.steps + (steps.new - steps.old)) }
         ensures legal { IsLegalBook self.new }
     {
-        let (reply, copies) = self.make(session, Call::Ask { name, mark }, None, false, steps);
-        drop(copies);
+        let (reply, kept) = self.make(session, Call::Ask { name, mark }, None, false, steps);
+        drop(kept);
         reply
     }
 
@@ -388,8 +388,8 @@ impl Book {
         ensures counted { self.new.steps ≡ capped (self.old.steps + (steps.new - steps.old)) }
         ensures legal { IsLegalBook self.new }
     {
-        let (reply, copies) = self.make(session, Call::Why { name, mark }, None, false, steps);
-        drop(copies);
+        let (reply, kept) = self.make(session, Call::Why { name, mark }, None, false, steps);
+        drop(kept);
         reply
     }
 

@@ -1,10 +1,7 @@
 //! The calls of the book.
-ghost use Rattle.std.specs.Prelude.{◌≡◌, IfOk};
-ghost use Rattle.scm_book.specs.Calls.{call_data};
 
 use scm_cells::{Initial, Name, Width};
 use scm_lowering::Access;
-use scm_sequences::NoMemory;
 
 /// A declaration of a cell: its name, its width, and what it holds at first, where that is known.
 #[derive(Clone, Copy, Debug, PartialEq, Eq)]
@@ -15,7 +12,7 @@ pub struct Decl {
 }
 
 /// What a session asks of the book.
-#[derive(Debug, PartialEq, Eq, Drop)]
+#[derive(Clone, Debug, PartialEq, Eq, Drop)]
 pub enum Call {
     /// Opens a trace of this many processes, with this budget and these cells.
     OpenTrace {
@@ -80,69 +77,4 @@ pub enum Call {
     CloseTrace {
         name: Name,
     },
-}
-
-impl Call {
-    /// An equal call.
-    pub fn copy(&self) -> Result<Call, NoMemory>
-        ensures { IfOk result (λ call. call_data call ≡ call_data self.now) }
-    {
-        Ok(match self {
-            Call::OpenTrace {
-                name,
-                procs,
-                budget,
-                cells,
-            } => Call::OpenTrace {
-                name: *name,
-                procs: *procs,
-                budget: *budget,
-                cells: cells.clone()?,
-            },
-            Call::ClaimProcess { name, process } => Call::ClaimProcess {
-                name: *name,
-                process: *process,
-            },
-            Call::ReleaseProcess { name, process } => Call::ReleaseProcess {
-                name: *name,
-                process: *process,
-            },
-            Call::Report {
-                name,
-                process,
-                access,
-            } => Call::Report {
-                name: *name,
-                process: *process,
-                access: *access,
-            },
-            Call::SetMark { name } => Call::SetMark { name: *name },
-            Call::GoBack { name, mark } => Call::GoBack {
-                name: *name,
-                mark: *mark,
-            },
-            Call::RaiseBudget { name, budget } => Call::RaiseBudget {
-                name: *name,
-                budget: *budget,
-            },
-            Call::Ask { name, mark } => Call::Ask {
-                name: *name,
-                mark: *mark,
-            },
-            Call::Why { name, mark } => Call::Why {
-                name: *name,
-                mark: *mark,
-            },
-            Call::Cycle { name, mark } => Call::Cycle {
-                name: *name,
-                mark: *mark,
-            },
-            Call::ShowOps { name, process } => Call::ShowOps {
-                name: *name,
-                process: *process,
-            },
-            Call::ListTraces => Call::ListTraces,
-            Call::CloseTrace { name } => Call::CloseTrace { name: *name },
-        })
-    }
 }

@@ -1,5 +1,5 @@
 //! From declarations to cells.
-ghost use Rattle.std.specs.Prelude.{◌≡◌, false, Some, IfOk, IfErr, if◌then◌else◌, None};
+ghost use Rattle.std.specs.Prelude.{◌≡◌, false, Some, IfOk, IfErr};
 ghost use Rattle.scm_sequences.specs.Refusals.{Refuses};
 ghost use Rattle.scm_sequences.specs.declared.refusal.Refusal.TheVariants.{BadDeclaration};
 ghost use Rattle.scm_book.specs.Refusals.{cause, are_bad_cells, declared_cells};

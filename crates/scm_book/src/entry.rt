@@ -9,7 +9,7 @@ pub struct Entry {
     pub session: u16,
     /// How many earlier entries are of this session.
     pub number: u64,
-    /// Shared with who keeps it too.
+    /// Shared with whoever keeps it too.
     pub call: Arc<Call>,
     pub reply: Reply,
 }

@@ -6,8 +6,8 @@ use scm_sequences::Lengths;
 use std::alloc::Global;
 use std::mem;
 
-/// The longest schedule that was found for a trace, where none was found, and the order in which its operations were
-/// reported. It is no part of the machine, and nothing rests on it: what a proposal makes of it is judged anew.
+/// The longest schedule that was found for a trace, at how many operations none was found, and the order of its reports. It is
+/// no part of the machine, and nothing rests on it: what a proposal makes of it is judged anew.
 #[derive(Drop)]
 pub(crate) struct KnownSchedules {
     schedule: Vec<u8>,
@@ -17,7 +17,7 @@ pub(crate) struct KnownSchedules {
     /// At how many operations no schedule was found. Nothing changed since, for any lengths with as many operations: the
     /// lengths that a trace can be asked about lie within one another.
     failed: Option<u64>,
-    /// At how many operations no schedule was found where all of the budget might have been spent on one, at last.
+    /// The same, where the whole budget could have been spent on a proposal.
     failed_whole: Option<u64>,
     /// At how many operations neither the schedule nor the order of the reports is legal, which were judged then.
     illegal: Option<u64>,
@@ -25,8 +25,8 @@ pub(crate) struct KnownSchedules {
     cuts: u64,
 }
 
-/// All of the budget may be spent once more on a proposal where the set is full when the trace has grown by this part of itself.
-const PART: u64 = 64;
+/// Where the set is full a proposal may cost the whole budget again once the trace has grown by this part of itself.
+const GROWTH_TO_RETRY: u64 = 64;
 
 impl KnownSchedules {
     /// No schedule and no operation yet.
@@ -140,7 +140,8 @@ impl KnownSchedules {
     /// Whether all of the budget may be spent on a proposal though the set is full.
     pub(crate) fn may_try_whole(&self, lengths: &Lengths) -> bool {
         match self.failed_whole {
-            Some(before) => operations_in(lengths) > before.saturating_add(before / PART),
+            Some(before) => operations_in(lengths)
+                > before.saturating_add(before / GROWTH_TO_RETRY),
             None => true,
         }
     }

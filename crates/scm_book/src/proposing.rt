@@ -1,8 +1,7 @@
 //! Schedules that are proposed and judged.
-ghost use Rattle.std.specs.Prelude.{◌≡◌, ◌≤◌, length, reverse, IfSome, IsTrue};
+ghost use Rattle.std.specs.Prelude.{reverse, IfSome, IsTrue};
 ghost use Rattle.scm_sequences.specs.declared.limits.TheConstants.{MOST_CELLS};
 ghost use Rattle.scm_sequences.specs.Lengths.{IsWithin};
-ghost use Rattle.scm_sequences.specs.Ops.{NamesCellsBelow};
 ghost use Rattle.scm_sequences.specs.Sequences.{lengths_of};
 ghost use Rattle.scm_sequences.specs.Traces.{trace_of, cut_to};
 ghost use Rattle.scm_sequences.specs.Fronts.{IsSchedule};

@@ -1,5 +1,5 @@
 //! The replies of the book.
-ghost use Rattle.std.specs.Prelude.{◌≡◌, true, false, IfOk, is_ok};
+ghost use Rattle.std.specs.Prelude.{◌≡◌, true, IfOk, is_ok};
 ghost use Rattle.scm_book.specs.Calls.{reply_data};
 ghost use Rattle.scm_book.specs.Journal.{makes_entry as makes_entry_data};
 ghost use Rattle.scm_book.specs.Changes.{tells_of_change};

@@ -1,5 +1,5 @@
 //! A walk along a list of process numbers.
-ghost use Rattle.std.specs.Prelude.{ℕ, ◌≡◌, ◌-◌, ◌<◌, ◌≤◌, ◌^◌, ◌↔◌, length, IsTrue, MatchBool, None, Some, OnSome, option_and_then, slice_index};
+ghost use Rattle.std.specs.Prelude.{◌≡◌, ◌-◌, ◌<◌, ◌≤◌, ◌^◌, ◌↔◌, length, IsTrue, MatchBool, None, Some, OnSome, option_and_then, slice_index};
 ghost use Rattle.scm_sequences.specs.declared.limits.TheConstants.{MOST_CELLS, MOST_PROCESSES};
 ghost use Rattle.scm_sequences.specs.Ops.{cell_of, NamesCellsBelow};
 ghost use Rattle.scm_sequences.specs.Sequences.{operation, cut_lists};

@@ -69,8 +69,8 @@ fn answer_jobs<B: BookNaming + Send + Sync, G: Gate + Sync, T: Threads + Wait + 
 /// each are answered in a thread of its own, and at the end the replies are written group by group. What was found goes into
 /// `findings`, as in a run in the order of the lines: the first refused line is that of the smallest number.
 ///
-/// Where a read fails, the whole lines before it are answered and their replies written. Ends as `run_with_workers` does. It
-/// fails with `NoMemory` before a line is answered alone; a line for which memory is refused later is answered so.
+/// Where a read fails, the whole lines before it are answered and their replies written. Ends as `run_with_workers` does.
+/// `NoMemory` comes only before the first answer; a line for which memory is refused later is answered so.
 pub fn run_each<
     B: BookNaming + Send + Sync,
     R: Read,

@@ -15,7 +15,7 @@ pub enum RunFault {
     /// The writer failed, or took no byte.
     #[error("write failed")]
     WriteFailed,
-    /// Memory was refused before the first read.
+    /// Memory was refused before any line was answered.
     #[error("no memory")]
     NoMemory,
 }

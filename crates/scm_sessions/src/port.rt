@@ -1,5 +1,5 @@
 //! A reader or a writer that remembers whether a call of it failed, and the pieces of text that are written to it.
-ghost use Rattle.std.specs.Prelude.{◌≡◌, ℕ, ◌∷◌, ◌+◌, ◌<◌, ◌≤◌, ◌||◌, decimal, flat_map, length, true, false, is_err, IfOk, OnOk, OnErr};
+ghost use Rattle.std.specs.Prelude.{◌≡◌, ◌+◌, ◌<◌, ◌≤◌, ◌||◌, decimal, flat_map, length, true, false, is_err, IfOk, OnOk, OnErr};
 ghost use Rattle.std.specs.Io.{ReadsAtMost, WritesAtMost};
 ghost use Rattle.std.specs.Io.KnownBytes.{Keeps, ReadConsumes, WriteAppends};
 ghost use Rattle.scm_sequences.specs.declared.limits.TheConstants.{MOST_READS};

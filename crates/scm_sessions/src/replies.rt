@@ -1,5 +1,5 @@
 //! The text of replies.
-ghost use Rattle.std.specs.Prelude.{◌≡◌, ◌∷◌, ◌++◌, codes, false, flat_map, is_err, option_copied, unwrap_or, IfErr};
+ghost use Rattle.std.specs.Prelude.{◌≡◌, ◌++◌, codes, false, flat_map, is_err, option_copied, unwrap_or, IfErr};
 ghost use Rattle.scm_book.specs.Calls.{reply_data, marked, consistent, ops, listed, refused};
 ghost use Rattle.scm_sessions.specs.Ports.{inner_of, has_failed, reads_of, Writes, Sends};
 ghost use Rattle.scm_sessions.specs.Replies.{spaced, fixed_text, with_text, shown_text, reply_text, reply_line};

@@ -121,7 +121,7 @@ pub(crate) fn run_lines<S: MakeCalls, R: Read, W: Write>(
 ///
 /// Each reply is written and flushed before more bytes are asked for, as far as whole lines were read, and no sooner: the
 /// replies to the lines that one read brought go out together. The run ends
-/// early where the reader or the writer fails. It fails with `NoMemory` before the first read alone; a line for which
+/// early where the reader or the writer fails. `NoMemory` comes only before the first read; a line for which
 /// memory is refused later is answered so, and the run goes on.
 pub fn run_script<R: Read, W: Write>(
     alloc: Global,

@@ -114,7 +114,7 @@ fn run_beside_workers<
 /// number of its session, and with what it found in `findings`.
 ///
 /// Each reply is written and flushed before more bytes are asked for, as far as whole lines were read. The run ends
-/// early where the reader or the writer fails. It fails with `NoMemory` before the first read alone; a line for which
+/// early where the reader or the writer fails. `NoMemory` comes only before the first read; a line for which
 /// memory is refused later is answered so, and the run goes on. Where no thread can be started, or memory for workers is
 /// refused, it goes on without workers. Workers have ended when it ends.
 pub fn run_with_workers<

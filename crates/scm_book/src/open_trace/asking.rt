@@ -63,7 +63,7 @@ impl OpenTrace {
         self.question(alloc, mark, true, steps)
     }
 
-    /// Either of them.
+    /// Answers the question; where it `explains`, `Because` stands for `Inconsistent`.
     fn question(
         &mut self,
         alloc: Global,

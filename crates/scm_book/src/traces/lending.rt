@@ -26,12 +26,8 @@ impl Traces {
     /// The first trace whose set may be wanted for work.
     fn wanting(&self) -> Option<Name> {
         for place in 0..self.traces.len() {
-            let (name, _) = self.traces.get_index(place).unwrap();
-            if self
-                .traces
-                .get(name)
-                .is_some_and(|trace| trace.may_want_work())
-            {
+            let (name, trace) = self.traces.get_index(place).unwrap();
+            if trace.may_want_work() {
                 return Some(*name);
             }
         }
