@@ -236,9 +236,10 @@ impl OpenTrace {
         ensures unchanged { OnErr result (self.new ≡ self.old) }
     {
         self.check_owner(session)?;
+        self.budget.raise(budget)?;
         self.earlier.retry();
         self.loan_state.retry();
-        self.budget.raise(budget)
+        Ok(())
     }
 
     /// The operations of a process, each with the name of its cell. Refused `NoSuchProcess`.

@@ -8,7 +8,7 @@ use crate::loan::Loan;
 pub enum Plan {
     /// It is to be made at once. The reply is there where a known schedule answers it.
     Ready(Option<Reply>),
-    /// It asks a question whose set is lent for work, and does well to wait until that is back.
+    /// It asks a question whose set is lent, and does well to wait until that is back.
     Waits,
     /// It asks a question that is likely to take long, to be searched with no book at hand before the call is made.
     Long(Loan),

@@ -1,9 +1,9 @@
 //! The counting word beside the lock, and all that is done with it.
-ghost use Rattle.std.specs.Prelude.{◌≡◌, ◌+◌, ◌<◌, ◌≤◌, ◌⊎◌, true, [], ◌∷◌, ◌++◌, length};
+ghost use Rattle.std.specs.Prelude.{◌≡◌, ◌+◌, ◌<◌, ◌≤◌, ◌⊎◌, [], ◌∷◌, ◌++◌, length};
 ghost use mathlib.Core.List.{IsPrefix};
 ghost use Rattle.scm_book.specs.Calls.{entry_data};
 ghost use Rattle.scm_shared.specs.Passes.{newcomer, at_front};
-ghost use Rattle.scm_shared.specs.Rule.{keeper, holder, Fits};
+ghost use Rattle.scm_shared.specs.Rule.{holder, Fits};
 ghost use Rattle.scm_shared.specs.Steps.{both, staying, parted, caught_up, called};
 ghost use Rattle.scm_shared.specs.Seats.{known_in, IsPassOf, HasPass, IsKeeper, IsBooks};
 

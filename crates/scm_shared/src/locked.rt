@@ -155,6 +155,8 @@ impl<B: BookNaming> Locked<B> {
         ensures unchanged { makes_entry (reply_data result) ≡ false → IsUnchanged self.old.book self.new.book }
     {
         if pass.kept.reserve(1).is_err() {
+            drop(known);
+            drop(call);
             return Reply::Refused(Refusal::NoMemory);
         }
         let (reply, kept) = self.book.call_kept(pass.number, call, known);

@@ -1,5 +1,5 @@
 //! What a shared book is made of.
-ghost use Rattle.std.specs.Prelude.{◌≡◌, ◌+◌, [], ◌∷◌};
+ghost use Rattle.std.specs.Prelude.{◌≡◌, ◌+◌, []};
 ghost use Rattle.scm_sequences.specs.declared.limits.TheConstants.{MOST_SESSIONS};
 ghost use Rattle.scm_shared.specs.Seats.{IsKeeper};
 

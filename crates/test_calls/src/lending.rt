@@ -2,6 +2,7 @@
 
 use crate::deliveries::add_call;
 use crate::words::{ANNA, call_of, name, play, played, says};
+use crate::work::awaits;
 use scm_book::{Book, Event, Loan, Plan, Reply, run_events};
 use scm_frontier::Steps;
 use std::alloc::Global;
@@ -15,6 +16,9 @@ pub(crate) const SITUATIONS: usize = 1_000;
 
 /// Each of three processes stores in its own cell, and the fourth loads from the first one what nobody stored.
 pub(crate) const OPEN: &str = "open t 4 5000 x y z; claim t 0; claim t 1; claim t 2; claim t 3";
+
+/// The same, with a budget of half of them.
+pub(crate) const WITH_FEW: &str = "open t 4 500 x y z; claim t 0; claim t 1; claim t 2; claim t 3";
 
 pub(crate) const FORBIDDEN: &str = "do t 3 lw x 10";
 
@@ -34,7 +38,7 @@ pub(crate) fn forbidden(rt: &impl Abort, alloc: Global) -> Book {
     forbidden_in(rt, alloc, OPEN)
 }
 
-fn forbidden_in(rt: &impl Abort, alloc: Global, open: &str) -> Book {
+pub(crate) fn forbidden_in(rt: &impl Abort, alloc: Global, open: &str) -> Book {
     let mut book = played(rt, alloc, open);
     report_stores(rt, alloc, &mut book, 1);
     play(rt, alloc, &mut book, FORBIDDEN);
@@ -86,10 +90,22 @@ fn what_was_found_spares_the_question(rt: HostRuntime) {
     drop(book);
 }
 
+/// Where a question is searched, another one about the trace waits, and none of its work is lent.
+#[test]
+fn a_question_waits_for_another(rt: HostRuntime) {
+    let mut book = forbidden(&rt, rt.alloc());
+    let loan = searched(&rt, rt.alloc(), &mut book);
+    assert!(rt; awaits(&rt, rt.alloc(), &mut book, "why t") && !book.may_want_work());
+    book.take_back(loan);
+    assert_ready(&rt, rt.alloc(), &mut book, "why t");
+    drop(book);
+}
+
 #[test]
 fn a_lost_question_is_asked_anew(rt: HostRuntime) {
     let mut book = forbidden(&rt, rt.alloc());
-    let _ = searched(&rt, rt.alloc(), &mut book);
+    let lost = searched(&rt, rt.alloc(), &mut book);
+    drop(lost);
     assert_searched(&rt, &mut book);
     assert_held(&rt, &book, SITUATIONS);
     drop(book);
@@ -145,11 +161,7 @@ fn a_closed_trace_takes_nothing_back(rt: HostRuntime) {
 /// The budget is spent, and raised while the question is away: the next one goes on from there.
 #[test]
 fn a_raised_budget_goes_on(rt: HostRuntime) {
-    let mut book = forbidden_in(
-        &rt,
-        rt.alloc(),
-        "open t 4 500 x y z; claim t 0; claim t 1; claim t 2; claim t 3",
-    );
+    let mut book = forbidden_in(&rt, rt.alloc(), WITH_FEW);
     let loan = searched(&rt, rt.alloc(), &mut book);
     play(&rt, rt.alloc(), &mut book, "raise t 5000");
     book.take_back(loan);
@@ -161,8 +173,12 @@ fn a_raised_budget_goes_on(rt: HostRuntime) {
 }
 
 fn assert_ready(rt: &impl Abort, alloc: Global, book: &mut Book, line: &str) {
-    let plan = book.plan(&call_of(rt, alloc, line));
-    assert!(rt; matches!(plan, Plan::Ready(None)));
+    let call = call_of(rt, alloc, line);
+    let plan = book.plan(&call);
+    let is_ready = matches!(plan, Plan::Ready(None));
+    drop(plan);
+    drop(call);
+    assert!(rt; is_ready);
 }
 
 #[test]
@@ -179,15 +195,16 @@ fn nothing_is_lent_where_the_answer_is_there(rt: HostRuntime) {
 /// A known schedule of t is carried by the plan of a question, and answers it with no step.
 fn assert_carried(rt: &impl Abort, alloc: Global, book: &mut Book) {
     let ask = call_of(rt, alloc, "ask t");
-    let Plan::Ready(Some(known)) = book.plan(&ask) else {
+    let Plan::Ready(known) = book.plan(&ask) else {
         panic!(rt; "a known schedule");
     };
-    let (reply, kept) = book.call_kept(ANNA, ask, Some(known));
+    let is_known = known.is_some();
+    let (reply, kept) = book.call_kept(ANNA, ask, known);
     let is_consistent = says(&reply, "consistent");
     drop(reply);
     let is_kept = kept.is_some();
     drop(kept);
-    assert!(rt; is_consistent && is_kept && book.steps() == 0);
+    assert!(rt; is_known && is_consistent && is_kept && book.steps() == 0);
 }
 
 #[test]

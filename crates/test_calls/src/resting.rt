@@ -29,7 +29,7 @@ const MOST_MILLIS: u64 = 60_000;
 const EMPTY: &str = "open u 1 100 x";
 
 /// A load in t of what nobody stores.
-const FORBIDDEN: &str = "open t 3 5000 x y; claim t 0; claim t 1; claim t 2; do t 2 lw x 2";
+const FORBIDDEN: &str = "open t 3 20000 x y; claim t 0; claim t 1; claim t 2; do t 2 lw x 2";
 
 const STORES: &str = "do t 0 sw x 1; do t 1 sw y 1";
 
@@ -134,10 +134,12 @@ fn rest_and_ask<B: BookNaming, R: Wait + Abort>(
     play(rt, alloc, shared, pass, "ask t => inconsistent");
 }
 
+/// Workers begin once the stores were reported so often, and where they were, a question about them was searched.
 fn rest<B: BookNaming + Send + Sync, R: Threads + Wait + Abort + Sync>(
     rt: &R,
     alloc: Global,
     token: BookToken,
+    before: usize,
 ) -> Book
     requires table { token.table.shared.table_id ≡ B.table }
     requires made { (token.made.name ≡ B.made) × (token.made.parts ≡ B.seats) }
@@ -146,6 +148,12 @@ fn rest<B: BookNaming + Send + Sync, R: Threads + Wait + Abort + Sync>(
     let shared = SharedBook::<B>::new(alloc, token);
     let mut pass = entered(rt, &shared);
     play(rt, alloc, &shared, &mut pass, FORBIDDEN);
+    for _ in 0..before {
+        play(rt, alloc, &shared, &mut pass, STORES);
+    }
+    if before > 0 {
+        play(rt, alloc, &shared, &mut pass, "ask t => inconsistent");
+    }
     let (_, tallies) = thread::join(
         rt,
         || {
@@ -159,9 +167,18 @@ fn rest<B: BookNaming + Send + Sync, R: Threads + Wait + Abort + Sync>(
 
 #[test]
 fn a_rest_spares_the_question(rt: HostRuntime) -> Result<(), Fail> {
-    let book = rest::<Brand, _>(&rt, rt.alloc(), BookToken::new(rt.alloc())?);
+    let book = rest::<Brand, _>(&rt, rt.alloc(), BookToken::new(rt.alloc())?, 0);
     assert!(rt; book.steps() == 0);
     assert_held(&rt, &book, (TIMES + 2) * (TIMES + 2));
+    drop(book);
+    Ok(())
+}
+
+/// A question that was searched beside the lock is over.
+#[test]
+fn workers_rest_for_no_question_that_is_over(rt: HostRuntime) -> Result<(), Fail> {
+    let book = rest::<Brand, _>(&rt, rt.alloc(), BookToken::new(rt.alloc())?, TIMES);
+    assert_held(&rt, &book, (2 * TIMES + 2) * (2 * TIMES + 2));
     drop(book);
     Ok(())
 }

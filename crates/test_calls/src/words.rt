@@ -7,10 +7,8 @@ use std::alloc::Global;
 use std::process::Abort;
 use std::str::SplitWhitespace;
 
-/// The sessions of the tests.
+/// The session of the tests.
 pub(crate) const ANNA: u16 = 1;
-
-pub(crate) const BERT: u16 = 2;
 
 pub(crate) fn name(rt: &impl Abort, word: &[u8]) -> Name {
     Name::read(word).expect(rt, "a name")

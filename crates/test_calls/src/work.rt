@@ -1,7 +1,8 @@
 //! Sets that are lent for work, and what is taken back of it.
 
 use crate::lending::{
-    FORBIDDEN, OPEN, SITUATIONS, assert_held, assert_spared, forbidden, report_stores,
+    FORBIDDEN, OPEN, SITUATIONS, WITH_FEW, assert_held, assert_spared, forbidden, forbidden_in,
+    report_stores,
 };
 use crate::words::{call_of, play, played};
 use scm_book::{Book, Loan, Plan};
@@ -16,7 +17,7 @@ fn lent(rt: &impl Abort, book: &mut Book) -> Loan {
 }
 
 /// Whether a question has to wait until its set is back. One that is lent instead comes back unsearched.
-fn awaits(rt: &impl Abort, alloc: Global, book: &mut Book, line: &str) -> bool {
+pub(crate) fn awaits(rt: &impl Abort, alloc: Global, book: &mut Book, line: &str) -> bool {
     match book.plan(&call_of(rt, alloc, line)) {
         Plan::Waits => true,
         Plan::Long(loan) => {
@@ -71,6 +72,12 @@ fn work_spares_the_question(rt: HostRuntime) {
     assert!(rt; times == 4);
     assert_held(&rt, &book, SITUATIONS);
     assert_spared(&rt, &mut book);
+    play(
+        &rt,
+        rt.alloc(),
+        &mut book,
+        "raise t 1 => refused bad-budget",
+    );
     assert_worked_off(&rt, &mut book);
     drop(book);
 }
@@ -90,6 +97,19 @@ fn work_that_is_given_back_is_gone_on_with(rt: HostRuntime) {
         lend_once(&rt, &mut book);
         assert_held(&rt, &book, times * AT_ONCE + 1);
     }
+    drop(book);
+}
+
+/// All that the budget allows is found, and more once it is raised.
+#[test]
+fn a_raised_budget_wants_work(rt: HostRuntime) {
+    let mut book = forbidden_in(&rt, rt.alloc(), WITH_FEW);
+    let mut loan = lent(&rt, &mut book);
+    let _times = times_of_work(&mut loan);
+    book.take_back(loan);
+    assert_worked_off(&rt, &mut book);
+    play(&rt, rt.alloc(), &mut book, "raise t 5000");
+    assert!(rt; book.may_want_work());
     drop(book);
 }
 
@@ -122,7 +142,7 @@ fn lose(rt: &impl Abort, alloc: Global, book: &mut Book) {
 fn what_is_explained_wants_no_work(rt: HostRuntime) {
     let mut book = played(&rt, rt.alloc(), OPEN);
     report_stores(&rt, rt.alloc(), &mut book, 1);
-    assert!(rt; !is_ever_lent(&mut book));
+    assert_worked_off(&rt, &mut book);
     play(&rt, rt.alloc(), &mut book, FORBIDDEN);
     assert!(rt; book.may_want_work());
     lose(&rt, rt.alloc(), &mut book);

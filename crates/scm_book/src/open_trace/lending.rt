@@ -47,7 +47,7 @@ impl OpenTrace {
         let Ok(start) = Reach::new(alloc, &self.cells, &self.sequences) else {
             return None;
         };
-        self.loan_state.lend(purpose);
+        self.loan_state.lend();
         Some(Loan {
             alloc,
             name,
@@ -149,10 +149,10 @@ impl OpenTrace {
             limit,
             mut reach,
             mut earlier,
-            purpose,
+            purpose: _,
             is_unfinished,
         } = loan;
-        self.loan_state.take_back(purpose, is_unfinished);
+        self.loan_state.take_back(is_unfinished);
         self.take_found(&sequences, limit, &mut reach, &mut earlier);
         drop(earlier);
         drop(reach);

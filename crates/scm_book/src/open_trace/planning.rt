@@ -55,7 +55,7 @@ impl OpenTrace {
         ensures lends { MatchOption (loan_in result) (self.new.set ≡ self.old.set) (λ loan. Lends name mark self.old.state self.old.set loan self.new.set) }
         ensures known { known_in result ≡ None }
     {
-        if self.loan_state.is_at_work() {
+        if !self.loan_state.is_here() {
             return Plan::Waits;
         }
         match self.lend(alloc, name, mark, Purpose::Answer) {
