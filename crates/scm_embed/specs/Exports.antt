@@ -1,5 +1,5 @@
 -- What the exported calls do to what a handle holds.
-use Rattle.std.specs.Prelude.{ℕ, ◌≡◌, ◌⊎◌, ◌<◌, ◌≤◌, List, length, take, Option, None, Some, MatchOption, IsSomeAnd}
+use Rattle.std.specs.Prelude.{ℕ, ◌≡◌, ◌⊎◌, ◌<◌, ◌≤◌, List, ◌++◌, length, drop, Option, None, Some, MatchOption, IsSomeAnd}
 use Rattle.scm_embed.specs.declared.codes.TheConstants.{DONE, NO_ROOM, NO_MEMORY, CLOSED}
 use Rattle.scm_embed.specs.declared.state.State.{State}
 use Rattle.scm_embed.specs.Calls.{IsNew}
@@ -30,10 +30,10 @@ abbrev pub KeepsAll : State → State → Type 0
 KeepsAll before after =
     (after.sessions ≡ before.sessions) × (after.answer ≡ before.answer) × (after.names ≡ before.names)
 
--- the text of the last answer stands at the front of the room; or it is longer than the room, which is as it was; or memory is
--- refused for it, and room and length are as they were
+-- the text of the last answer stands at the front of the room, whose rest is as it was; or it is longer than the room, which is
+-- as it was; or memory is refused for it, and room and length are as they were
 abbrev pub GivesText : State → List ℕ → List ℕ → ℕ → ℕ → ℕ → Type 0
 GivesText state room out known needed code =
-    ((code ≡ DONE) × (needed ≡ length (answer_text state.answer)) × (needed ≤ length out) × (take needed out ≡ answer_text state.answer))
+    ((code ≡ DONE) × (needed ≡ length (answer_text state.answer)) × (needed ≤ length room) × (out ≡ answer_text state.answer ++ drop needed room))
     ⊎ ((code ≡ NO_ROOM) × (needed ≡ length (answer_text state.answer)) × (length room < needed) × (out ≡ room))
     ⊎ ((code ≡ NO_MEMORY) × (needed ≡ known) × (out ≡ room))

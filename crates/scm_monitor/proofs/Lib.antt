@@ -1,2 +1,3 @@
+mod Telling
 mod Parsing
 pub mod Reading

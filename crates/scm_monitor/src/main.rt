@@ -1,8 +1,9 @@
 //! The program: it reads a script from standard input and writes the replies to standard output.
 #![tactic(auto)]
 
-ghost use Rattle.std.specs.Prelude.{◌≡◌, false};
-ghost use Rattle.scm_sessions.specs.Ports.{has_failed};
+ghost use Rattle.std.specs.Prelude.{◌≡◌, false, IfOk};
+ghost use Rattle.scm_monitor.specs.Endings.{IsStatusOfRun};
+ghost use Rattle.scm_sessions.specs.Ports.{has_failed, inner_of};
 
 mod command_line;
 mod ending;
@@ -116,12 +117,10 @@ fn run_between<H: Eprint + AllocGlobal + Threads + Wait + Sync, R: Read, W: Writ
     requires writes { has_failed writer.old ≡ false }
 {
     let mut findings = Findings::new();
-    let status = if options.each {
-        run_apart(rt, options, reader, writer, &mut findings)?
-    } else if options.workers == 0 {
-        run_alone(rt.alloc(), options, reader, writer, &mut findings)?
+    let status = if options.each || options.workers > 0 {
+        run_shared(rt, options, reader, writer, &mut findings)?
     } else {
-        run_beside(rt, options, reader, writer, &mut findings)?
+        run_alone(rt.alloc(), options, reader, writer, &mut findings)?
     };
     tell(rt, options, status, &findings);
     Ok(ExitCode::from(status))
@@ -164,8 +163,8 @@ fn run_alone<R: Read, W: Write>(
     Ok(end_status(true, options.check, findings))
 }
 
-// The same beside workers.
-fn run_beside<H: AllocGlobal + Threads + Wait + Sync, R: Read, W: Write>(
+// The same beside workers, or with a thread for each session. The status is that of the run's own audit.
+fn run_shared<H: AllocGlobal + Threads + Wait + Sync, R: Read, W: Write>(
     rt: &H,
     options: Options,
     reader: &mut Port<R>,
@@ -174,32 +173,20 @@ fn run_beside<H: AllocGlobal + Threads + Wait + Sync, R: Read, W: Write>(
 ) -> Result<u8, RunFault>
     requires reads { has_failed reader.old ≡ false }
     requires writes { has_failed writer.old ≡ false }
+    ensures told { IfOk result (IsStatusOfRun (R.remaining (inner_of reader.old)) (R.remaining (inner_of reader.new))
+        (W.contents (inner_of writer.old)) options findings.new) }
 {
     let alloc = rt.alloc();
     let token = BookToken::new(alloc)?;
     let workers = usize::from(options.workers);
-    let ended = run_with_workers::<Brand, R, W, FreeGate, H>(
-        rt, alloc, token, reader, writer, findings, &FreeGate, workers,
-    )?;
-    end_run(writer, ended, options, findings)
-}
-
-// The same with a thread for each session.
-fn run_apart<H: AllocGlobal + Threads + Wait + Sync, R: Read, W: Write>(
-    rt: &H,
-    options: Options,
-    reader: &mut Port<R>,
-    writer: &mut Port<W>,
-    findings: &mut Findings,
-) -> Result<u8, RunFault>
-    requires reads { has_failed reader.old ≡ false }
-    requires writes { has_failed writer.old ≡ false }
-{
-    let alloc = rt.alloc();
-    let token = BookToken::new(alloc)?;
-    let workers = usize::from(options.workers);
-    let ended = run_each::<Brand, R, W, FreeGate, H>(
-        rt, alloc, token, reader, writer, findings, &FreeGate, workers,
-    )?;
+    let ended = if options.each {
+        run_each::<Brand, R, W, FreeGate, H>(
+            rt, alloc, token, reader, writer, findings, &FreeGate, workers,
+        )?
+    } else {
+        run_with_workers::<Brand, R, W, FreeGate, H>(
+            rt, alloc, token, reader, writer, findings, &FreeGate, workers,
+        )?
+    };
     end_run(writer, ended, options, findings)
 }
