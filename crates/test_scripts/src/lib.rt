@@ -15,8 +15,6 @@ mod journals;
 #[cfg(test)]
 mod ports;
 #[cfg(test)]
-mod proposals;
-#[cfg(test)]
 mod replays;
 #[cfg(test)]
 mod reply_texts;

@@ -136,12 +136,6 @@ impl Asked {
         (settled, steps.made())
     }
 
-    /// The same of the whole trace.
-    pub(crate) fn ask_at_the_end(&mut self, rt: &impl Abort, limit: usize) -> (Settled, u64) {
-        let lengths = self.sequences.lengths();
-        self.ask_under(rt, &lengths, limit)
-    }
-
     /// So many tasks.
     pub(crate) fn take(&mut self, rt: &impl Abort, alloc: Global, n: usize) -> Vec<Task> {
         let name = Name::read(b"t").expect(rt, "a name");

@@ -16,10 +16,33 @@ fn is_decided(
     sequences: &Sequences,
     room: usize,
 ) -> bool {
+    is_decided_from(rt, alloc, initials, sequences, &[], room)
+}
+
+/// The same, from an earlier schedule on.
+fn is_decided_from(
+    rt: &impl Abort,
+    alloc: Global,
+    initials: &[Option<u64>],
+    sequences: &Sequences,
+    earlier: &[u8],
+    room: usize,
+) -> bool {
     let lengths = sequences.lengths();
-    match propose(alloc, initials, sequences, &lengths, &[], room, room) {
+    match propose(alloc, initials, sequences, &lengths, earlier, room, room) {
         Some(schedule) => is_legal_schedule(rt, initials, sequences, &lengths, &schedule),
         None => false,
+    }
+}
+
+/// Two stores of 1 and 2, and a process that loads them, from earlier schedules: a beginning, one whose last write came too
+/// early, one that isn't legal, one of processes that aren't there, and one that is too long.
+#[test]
+fn earlier_schedules(rt: HostRuntime) {
+    let sequences = sequences_in(&rt, rt.alloc(), 2, "0Wy1 0Wy2 1Ry1 1Ry2");
+    let earlier: [&[u8]; 5] = [&[0, 1], &[0, 0], &[1, 0], &[7, 255], &[0, 1, 0, 1, 0]];
+    for places in earlier {
+        assert!(rt; is_decided_from(&rt, rt.alloc(), &INITIALS, &sequences, places, 10_000));
     }
 }
 
