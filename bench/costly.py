@@ -71,6 +71,7 @@ KINDS = {
     "32 x 3000, 64 cells, 200 values": lambda: few_values(32, 3_000, 64, 200),
     "3 x 100000, 8 cells, 8 values, changed late": lambda: changed_late(3, 100_000, 8, 8),
     "2 x 60000, 8 cells, 8 values, changed late": lambda: changed_late(2, 60_000, 8, 8),
+    "16 x 2000, 16 cells, 48 values, changed late": lambda: changed_late(16, 2_000, 16, 48),
     "3,000 sources excluded": lambda: excluded(3_000),
     "10,000 sources overwritten": lambda: overwritten(10_000),
 }
