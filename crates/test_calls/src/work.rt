@@ -62,6 +62,12 @@ fn assert_worked_off(rt: &impl Abort, book: &mut Book) {
     assert!(rt; !is_ever_lent(book) && !book.may_want_work());
 }
 
+/// A budget that is too small is refused, and brings no work. A look would forget that it did.
+fn assert_raise_refused(rt: &impl Abort, alloc: Global, book: &mut Book) {
+    play(rt, alloc, book, "raise t 1 => refused bad-budget");
+    assert!(rt; !book.may_want_work());
+}
+
 #[test]
 fn work_spares_the_question(rt: HostRuntime) {
     let mut book = forbidden(&rt, rt.alloc());
@@ -72,12 +78,7 @@ fn work_spares_the_question(rt: HostRuntime) {
     assert!(rt; times == 4);
     assert_held(&rt, &book, SITUATIONS);
     assert_spared(&rt, &mut book);
-    play(
-        &rt,
-        rt.alloc(),
-        &mut book,
-        "raise t 1 => refused bad-budget",
-    );
+    assert_raise_refused(&rt, rt.alloc(), &mut book);
     assert_worked_off(&rt, &mut book);
     drop(book);
 }
