@@ -1,6 +1,6 @@
 //! Words that stand for counts and numbers, and the value of a number in a cell of a width.
 ghost use Rattle.std.specs.Prelude.{◌≡◌, IsNone, IfSome};
-ghost use Rattle.std.specs.Option.{ok_or, option_map};
+ghost use Rattle.std.specs.Option.{ok_or};
 ghost use Rattle.scm_sequences.specs.declared.refusal.Refusal.TheVariants.{BadLine, ValueOutOfRange};
 ghost use Rattle.scm_cells.specs.Numbers.{count_of_word, number_of_word, value_of_number};
 

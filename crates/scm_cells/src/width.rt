@@ -1,5 +1,5 @@
 //! The widths of cells.
-ghost use Rattle.std.specs.Prelude.{◌≡◌, ◌+◌, ◌*◌};
+ghost use Rattle.std.specs.Prelude.{◌≡◌, ◌+◌};
 ghost use Rattle.scm_cells.specs.Widths.{values_of};
 
 /// How wide a cell is: 32 bits (`W`, a word) or 64 bits (`D`, a doubleword).

@@ -4,6 +4,7 @@ ghost use Rattle.scm_orders.specs.Blocks.{IsAssumed, IsOpen, GoesOn, IsPlaced, I
 
 use crate::{Line, Rule};
 
+/// Whether the rule assumes.
 pub(crate) fn is_assumed(rule: Rule) -> bool
     ensures { IsTrue result ↔ IsAssumed rule }
 {

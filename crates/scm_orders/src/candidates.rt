@@ -5,9 +5,8 @@ ghost use Rattle.scm_orders.specs.Places.{WritesWhatIsRead};
 ghost use Rattle.scm_orders.specs.Facts.{fact_at as known_at, SomeHint};
 ghost use Rattle.scm_orders.specs.Candidates.{Overwrites, Denies, RulesOut, PutsWriteBefore, DeniesFirst, RulesOutFirst, IsRuledOut, IsRuledOutFirst, HasFirst, Has, HasBy, IsSettled, IsFirstSettled, LeavesOnly, Leaves};
 
-use crate::basis::Basis;
 use crate::cut_trace::{CutTrace, Reading};
-use crate::showing::{fact_at, shows};
+use crate::showing::{Basis, fact_at, shows};
 use crate::{Fact, Place};
 
 /// What may be left for a read to see.
@@ -175,7 +174,7 @@ fn hint_settles(on: &Basis<'_>, hint: u32, read: Reading, left: Left, write: Pla
     }
 }
 
-// The first of these hints that does, if there is one.
+// The first of these hints that rules the write out or shows that it is left, if there is one.
 fn settling_hint(
     on: &Basis<'_>,
     hints: &[u32],
@@ -191,7 +190,7 @@ fn settling_hint(
         .position(|hint| hint_settles(on, *hint, read, left, write))
 }
 
-// Whether one of the hints does. The search begins with the one that served last, so that hints in the order of the writes
+// Whether one of the hints rules the write out or shows that it is left. The search begins with the one that served last, so that hints in the order of the writes
 // cost one pass.
 fn is_settled_by_hint(
     on: &Basis<'_>,
@@ -226,7 +225,7 @@ fn is_settled(on: &Basis<'_>, read: Reading, left: Left, write: Place, served: &
         || is_settled_by_hint(on, read, left, write, served)
 }
 
-// Whether each operation of this process is.
+// Whether each operation of this process is settled.
 fn is_process_settled(
     on: &Basis<'_>,
     read: Reading,
@@ -248,7 +247,7 @@ fn is_process_settled(
     true
 }
 
-// Whether each operation is.
+// Whether each operation is settled.
 fn are_settled(on: &Basis<'_>, read: Reading, left: Left) -> bool
     ensures { IsTrue result ↔ ((write : Place) → IsSettled on.now.trace.now on.now.earlier.now on.now.hints.now read left write) }
 {

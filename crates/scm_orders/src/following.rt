@@ -3,12 +3,11 @@ ghost use Rattle.std.specs.Prelude.{◌↔◌, All, IsTrue, IsSomeAnd};
 ghost use Rattle.scm_orders.specs.Facts.{fact_at as known_at};
 ghost use Rattle.scm_orders.specs.Following.{Follows, IsNamed, FollowsBy, IsDrawn, HasFewHints, IsOf, AreOperations, IsOrdered, IsHiddenBy, IsHidden, IsBeforeAll, IsWriteBefore, HasReader, IsAfterSource, IsSource};
 
-use crate::basis::Basis;
 use crate::blocks::{is_placed, is_visible};
 use crate::candidates::{Left, leaves, writes_what_is_read};
 use crate::cut_trace::CutTrace;
 use crate::lemmas::is_lemma;
-use crate::showing::{fact_at, is_before, is_joined};
+use crate::showing::{Basis, fact_at, is_before, is_joined};
 use crate::{Fact, Line, MOST_HINTS, Place, Rule};
 
 /// Whether the line follows from the trace and the earlier lines, with these hints.
@@ -29,7 +28,7 @@ fn are_named(earlier: &[Line], block: Option<u32>, hints: &[u32]) -> bool
     hints.iter().all(|hint| is_named(earlier, block, *hint))
 }
 
-// Whether this hint is.
+// Whether this hint is the number of a line that can be named in this block.
 fn is_named(earlier: &[Line], block: Option<u32>, hint: u32) -> bool
     ensures { IsTrue result ↔ IsNamed earlier.now block hint }
 {
@@ -79,7 +78,7 @@ fn follows_by(on: &Basis<'_>, fact: Fact, rule: Rule) -> bool
     }
 }
 
-// Whether it does by a rule that draws it from the hints alone.
+// Whether the fact follows by a rule that draws it from the hints alone.
 fn is_drawn(on: &Basis<'_>, fact: Fact, rule: Rule) -> bool
     ensures { IsTrue result ↔ IsDrawn on.now.trace.now on.now.earlier.now on.now.hints.now fact rule }
 {
@@ -151,7 +150,7 @@ fn is_after_source(on: &Basis<'_>, write: Place, source: Place) -> bool
             .any(|hint| hint_has_reader(on, write, source, *hint))
 }
 
-// Whether this hint does.
+// Whether this hint shows a read of the source that the write comes before.
 fn hint_has_reader(on: &Basis<'_>, write: Place, source: Place, hint: u32) -> bool
     ensures { IsTrue result ↔ IsSomeAnd (known_at on.now.earlier.now hint) (HasReader on.now.trace.now on.now.earlier.now on.now.hints.now write source) }
 {

@@ -3,11 +3,10 @@ ghost use Rattle.std.specs.Prelude.{ℕ, ◌≡◌, ◌<◌, ◌↔◌, IsTrue, 
 ghost use Rattle.scm_orders.specs.Facts.{fact_at as known_at, SomeHint};
 ghost use Rattle.scm_orders.specs.Lemmas.{Negates, Implies, IsMet, Assumes, LeavesOne, IsLemma, hints_near as near};
 
-use crate::basis::Basis;
 use crate::blocks::is_assumed;
 use crate::candidates::{is_ruled_out, is_ruled_out_first};
 use crate::cut_trace::CutTrace;
-use crate::showing::{fact_at, shows};
+use crate::showing::{Basis, fact_at, shows};
 use crate::{Fact, Line};
 
 /// Whether line `end` ends a block, and its assumptions hold by the hints but one, of which the fact is the contrary.
@@ -75,7 +74,7 @@ fn are_met(on: &Basis<'_>, fact: Fact, block: u32, lines: &[Line], count: usize)
     true
 }
 
-// Whether this line is.
+// Whether the line at this place is an assumption of the block that is met.
 fn is_met_at(on: &Basis<'_>, fact: Fact, block: u32, lines: &[Line], k: usize) -> bool
     ensures { IsTrue result ↔ IsSomeAnd (slice_get lines.now k) (λ line. Assumes block line × IsMet on.now.trace.now on.now.earlier.now (near on.now.hints.now k) fact line.fact) }
 {

@@ -2,7 +2,6 @@
 //! operation before itself; and the test whether such a list leaves a trace no schedule.
 #![tactic(auto)]
 
-mod basis;
 mod blocks;
 mod candidates;
 mod cut_trace;

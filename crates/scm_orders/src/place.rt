@@ -10,12 +10,14 @@ pub struct Place {
 }
 
 impl Place {
+    /// Whether it is the other one, or stands before it in its process.
     pub(crate) fn is_up_to(self, other: Place) -> bool
         ensures { IsTrue result ↔ IsUpTo self other }
     {
         self.process == other.process && self.at <= other.at
     }
 
+    /// Whether it stands before the other one in its process.
     pub(crate) fn is_earlier(self, other: Place) -> bool
         ensures { IsTrue result ↔ IsEarlier self other }
     {

@@ -4,9 +4,9 @@ ghost use Rattle.scm_sequences.specs.Traces.{cut_to, trace_of};
 ghost use Rattle.scm_sequences.specs.Fronts.{IsConsistent};
 ghost use Rattle.scm_orders.specs.Refuting.{LineFollows, AllFollow, IsEnd, Refutes};
 
-use crate::basis::Basis;
 use crate::cut_trace::CutTrace;
 use crate::following::follows;
+use crate::showing::Basis;
 use crate::{Derivation, Line};
 use scm_sequences::{Lengths, Sequences};
 

@@ -2,7 +2,16 @@
 ghost use Rattle.std.specs.Prelude.{◌≡◌, ◌↔◌, IsTrue, IsSomeAnd, option_and_then, if◌then◌else◌};
 ghost use Rattle.scm_orders.specs.Facts.{fact_at as known_at, order_of, Shows, IsBefore, IsJoined, Leads};
 
+use crate::cut_trace::CutTrace;
 use crate::{Fact, Line, Place};
+
+/// What a line may rest on: the trace, the lines before it, and its hints, which are numbers of some of these.
+#[derive(Clone, Copy)]
+pub(crate) struct Basis<'a> {
+    pub(crate) trace: &'a CutTrace<'a>,
+    pub(crate) earlier: &'a [Line],
+    pub(crate) hints: &'a [u32],
+}
 
 /// What the earlier line of this number says, if there is one.
 pub(crate) fn fact_at(earlier: &[Line], number: u32) -> Option<Fact>

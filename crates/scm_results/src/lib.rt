@@ -2,15 +2,13 @@
 #![tactic(auto)]
 
 mod fate;
-mod limits;
 mod naming;
 mod results;
 mod tally;
 mod totals;
 
 pub use fate::Fate;
-pub use limits::MOST_TALLIES;
-pub use naming::{Delivered, Naming, Taken, Token};
+pub use naming::{Delivered, MOST_TALLIES, Naming, Taken, Token};
 pub use results::Results;
 pub use tally::Tally;
 pub use totals::Totals;

@@ -1,10 +1,12 @@
 //! Which source a tally is of.
 ghost use Rattle.std.specs.Prelude.{ℕ, ◌≡◌, ◌+◌};
-ghost use Rattle.scm_results.specs.declared.limits.TheConstants.{MOST_TALLIES};
+ghost use Rattle.scm_results.specs.declared.naming.TheConstants.{MOST_TALLIES};
 
-use crate::MOST_TALLIES;
 use std::marker::{Brand, PhantomData};
 use std::sync::ledger::{Blank, Ledger};
+
+/// The most tallies that a source gives.
+pub const MOST_TALLIES: u32 = 65_536;
 
 /// The name of one source, whose totals and tallies count together: the ledgers of what was taken and what was delivered, and
 /// how many parts each is cut into. The call that makes the source picks it, with `Brand`, from the source's token.

@@ -1,5 +1,5 @@
 //! How many tasks were taken, and what became of their outcomes.
-ghost use Rattle.std.specs.Prelude.{ℕ, ◌≡◌, ◌+◌};
+ghost use Rattle.std.specs.Prelude.{◌≡◌, ◌+◌};
 ghost use Rattle.scm_results.specs.Totals.{capped, none_counted, with_taken, with_fate, sum_of, delivered_of, total_of};
 
 use crate::Fate;

@@ -1,6 +1,6 @@
 //! What a source keeps of what was taken from it and delivered to it.
 ghost use Rattle.std.specs.Prelude.{◌≡◌, ◌+◌, ◌<◌, ◌≤◌, ◌↔◌, IsTrue, MatchOption, vec_len};
-ghost use Rattle.scm_results.specs.declared.limits.TheConstants.{MOST_TALLIES};
+ghost use Rattle.scm_results.specs.declared.naming.TheConstants.{MOST_TALLIES};
 ghost use Rattle.scm_results.specs.Totals.{with_taken, sum_of, delivered_of};
 ghost use Rattle.scm_results.specs.Tallies.{nothing, nothing_counted, RisesAlike, AddUpTo};
 
@@ -16,13 +16,13 @@ pub struct Totals<B: Naming> {
     given: u32,
     taken: Book<Taken<B>>,
     delivered: Book<Delivered<B>>,
-    rest_of_taken: Share<Taken<B>>,
-    rest_of_delivered: Share<Delivered<B>>,
+    unissued_taken: Share<Taken<B>>,
+    unissued_delivered: Share<Delivered<B>>,
 }
 
 impl<B: Naming> Model for Totals<B> {
     ghost use Rattle.std.specs.Prelude.{◌≡◌, ◌+◌, ◌≤◌};
-    ghost use Rattle.scm_results.specs.declared.limits.TheConstants.{MOST_TALLIES};
+    ghost use Rattle.scm_results.specs.declared.naming.TheConstants.{MOST_TALLIES};
     ghost use Rattle.scm_results.specs.Totals.{delivered_of};
     ghost use Rattle.scm_results.specs.Tallies.{Total};
 
@@ -33,10 +33,10 @@ impl<B: Naming> Model for Totals<B> {
     ghost invariant = { λ t.
         (t.taken.total ≡ t.results.taken)
         × (t.delivered.total ≡ delivered_of t.results)
-        × (t.rest_of_taken.parts + t.given ≡ MOST_TALLIES + 1)
-        × (t.rest_of_delivered.parts + t.given ≡ MOST_TALLIES + 1)
-        × (t.rest_of_taken.amount ≡ 0)
-        × (t.rest_of_delivered.amount ≡ 0)
+        × (t.unissued_taken.parts + t.given ≡ MOST_TALLIES + 1)
+        × (t.unissued_delivered.parts + t.given ≡ MOST_TALLIES + 1)
+        × (t.unissued_taken.amount ≡ 0)
+        × (t.unissued_delivered.amount ≡ 0)
         × (t.given ≤ MOST_TALLIES)
         × (B.parts ≡ MOST_TALLIES + 1) };
 }
@@ -49,15 +49,15 @@ impl<B: Naming> Totals<B> {
         requires parts { token.taken.parts ≡ B.parts }
         ensures { result ≡ nothing }
     {
-        let (taken, rest_of_taken) = token.taken.open::<Taken<B>>();
-        let (delivered, rest_of_delivered) = token.delivered.open::<Delivered<B>>();
+        let (taken, unissued_taken) = token.taken.open::<Taken<B>>();
+        let (delivered, unissued_delivered) = token.delivered.open::<Delivered<B>>();
         Totals {
             results: Results::new(),
             given: 0,
             taken,
             delivered,
-            rest_of_taken,
-            rest_of_delivered,
+            unissued_taken,
+            unissued_delivered,
         }
     }
 
@@ -88,8 +88,8 @@ impl<B: Naming> Totals<B> {
         Some(Tally {
             taken: 0,
             delivered: 0,
-            of_taken: self.rest_of_taken.split_off(1, 0),
-            of_delivered: self.rest_of_delivered.split_off(1, 0),
+            of_taken: self.unissued_taken.split_off(1, 0),
+            of_delivered: self.unissued_delivered.split_off(1, 0),
         })
     }
 
@@ -145,8 +145,8 @@ impl<B: Naming> Totals<B> {
             results,
             mut taken,
             mut delivered,
-            rest_of_taken: mut all_of_taken,
-            rest_of_delivered: mut all_of_delivered,
+            unissued_taken: mut all_of_taken,
+            unissued_delivered: mut all_of_delivered,
             ..
         } = self;
         let mut taken_sum = 0;

@@ -1,5 +1,5 @@
 //! The sequences of operations of a trace, one for each process.
-ghost use Rattle.std.specs.Prelude.{◌≡◌, ℕ, ◌<◌, ◌≤◌, ◌↔◌, List, length, replicate, [], IsTrue, IfOk, IfErr, OnOk, OnErr, IsSome, All};
+ghost use Rattle.std.specs.Prelude.{◌≡◌, ◌<◌, ◌≤◌, ◌↔◌, List, length, replicate, [], IsTrue, IfOk, IfErr, OnOk, OnErr, All};
 ghost use Rattle.scm_sequences.specs.declared.limits.TheConstants.{MOST_OPERATIONS, MOST_PROCESSES};
 ghost use Rattle.scm_sequences.specs.Refusals.{Refuses};
 ghost use Rattle.scm_sequences.specs.Ops.{cell_of, NamesCellsBelow};
@@ -31,7 +31,7 @@ fn lists_below(lists: &[Vec<Op>], n: usize) -> bool
 }
 
 impl Model for Sequences {
-    ghost use Rattle.std.specs.Prelude.{ℕ, List, map, ◌≤◌, ◌<◌, length};
+    ghost use Rattle.std.specs.Prelude.{List, map, ◌≤◌, ◌<◌, length};
     ghost use Rattle.scm_sequences.specs.declared.op.Op.{Op};
     ghost use Rattle.scm_sequences.specs.Sequences.{AreSequences};
 

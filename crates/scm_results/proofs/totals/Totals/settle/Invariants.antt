@@ -1,6 +1,6 @@
 use Rattle.std.proofs.Common.{◌≡◌, ◌+◌, ◌≤◌, length, sum_by}
 use Rattle.scm_results.specs.Totals.{delivered_of}
-use Rattle.scm_results.specs.declared.limits.TheConstants.{MOST_TALLIES}
+use Rattle.scm_results.specs.declared.naming.TheConstants.{MOST_TALLIES}
 use Rattle.scm_results.proofs.totals.Totals.settle.Given as goal
 
 abbrev pub invariant-loop-tally : goal.invariant-loop-tally
