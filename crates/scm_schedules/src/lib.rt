@@ -1,5 +1,5 @@
-//! Schedules: the one that leads to a situation, the test whether one is legal, and the first contents that a front fixes. Refutations: the situations of a
-//! set that was closed, and the test whether a list of situations leaves no schedule.
+//! Schedules: the one that leads to a situation, the test whether one is legal, and the first contents that a front fixes.
+//! Refutations: the situations of a set that was closed, and the test whether a list of situations leaves no schedule.
 #![tactic(auto)]
 
 mod fixing;
