@@ -154,7 +154,7 @@ impl Candidates {
             .get(start..start.checked_add(self.procs as usize)?)
     }
 
-    /// How many reads were looked at for that.
+    /// Puts new bounds in the place of a read's old ones. How many reads were looked at for that.
     pub(crate) fn set(&mut self, read: u32, process: u32, bounds: Bounds) -> Option<usize> {
         let at = self.place(read, process)?;
         let old = *self.bounds.get(at as usize)?;

@@ -2,9 +2,8 @@
 use crate::claims::Claim;
 use crate::conflict::Conflict;
 use crate::gathering::draft;
-use crate::goals::Goal;
-use crate::search::Search;
-use crate::steps::{Need, Why};
+use crate::search::{Search, Sought};
+use crate::steps::Why;
 use crate::touching::Side;
 use crate::waiting::Next;
 use scm_orders::Derivation;
@@ -137,12 +136,12 @@ impl Search {
 
     // Keeps what contradicts itself as a clause, and goes back to where that tells something new.
     fn learn(&mut self, conflict: Conflict) -> Option<()> {
-        let block = match self.goal {
-            Goal::Schedule => Derivation {
+        let block = match self.sought {
+            Sought::Schedule => Derivation {
                 lines: Vec::new(self.alloc),
                 hints: Vec::new(self.alloc),
             },
-            Goal::Refutation => draft(self.alloc, self, &conflict)?,
+            Sought::Refutation => draft(self.alloc, self, &conflict)?,
         };
         let supposed = self.supposed(&conflict)?;
         let (claims, level) = self.claims(&conflict)?;

@@ -3,10 +3,10 @@ use crate::claims::{Claim, Kind};
 use std::alloc::Global;
 
 /// How much a contradiction adds to what it goes through, at first.
-const FIRST_RISE: u64 = 1 << 20;
+const FIRST_INCREMENT: u64 = 1 << 20;
 
 /// From this on all is made smaller.
-const MOST_RISE: u64 = 1 << 40;
+const MOST_INCREMENT: u64 = 1 << 40;
 
 /// By how much it is made smaller.
 const SCALE: u32 = 20;
@@ -23,7 +23,7 @@ pub(crate) struct Choices {
     lefts: Vec<u32>,
     open: Vec<u32>,
     places: Vec<usize>,
-    rise: u64,
+    increment: u64,
 }
 
 impl Choices {
@@ -34,7 +34,7 @@ impl Choices {
             lefts: vec![in alloc; 0; ops as usize].ok()?,
             open: Vec::new(alloc),
             places: vec![in alloc; 0; ops as usize].ok()?,
-            rise: FIRST_RISE,
+            increment: FIRST_INCREMENT,
         })
     }
 
@@ -83,7 +83,7 @@ impl Choices {
         Some(())
     }
 
-    /// A contradiction goes through this.
+    /// A contradiction goes through this claim: its operations are chosen sooner.
     pub(crate) fn bump(&mut self, claim: Claim) -> Option<()> {
         self.raise(claim.to)?;
         self.raise(match claim.kind {
@@ -93,17 +93,17 @@ impl Choices {
     }
 
     fn raise(&mut self, x: u32) -> Option<()> {
-        let rise = self.rise;
+        let increment = self.increment;
         let activity = self.activities.get_mut(x as usize)?;
-        *activity = activity.saturating_add(rise);
+        *activity = activity.saturating_add(increment);
         Some(())
     }
 
     /// What comes later counts for more.
     pub(crate) fn age(&mut self) {
-        self.rise = self.rise.saturating_add(self.rise / 19);
-        if self.rise > MOST_RISE {
-            self.rise >>= SCALE;
+        self.increment = self.increment.saturating_add(self.increment / 19);
+        if self.increment > MOST_INCREMENT {
+            self.increment >>= SCALE;
             for activity in self.activities.iter_mut() {
                 *activity >>= SCALE;
             }
@@ -113,7 +113,7 @@ impl Choices {
     /// The activity of an operation, where 1,024 is one contradiction of late; never 0.
     pub(crate) fn share(&self, x: u32) -> Option<u64> {
         let activity = *self.activities.get(x as usize)?;
-        let unit = (self.rise >> 10).max(1);
+        let unit = (self.increment >> 10).max(1);
         Some((activity / unit).saturating_add(1))
     }
 }

@@ -1,7 +1,6 @@
 //! Which case is tried next.
 use crate::claims::Claim;
-use crate::goals::Goal;
-use crate::search::Search;
+use crate::search::{Search, Sought};
 use crate::views::{View, part};
 
 /// What a place's share of its process is counted in.
@@ -43,7 +42,7 @@ impl Search {
         if let Some(read) = self.open_read(self.restarts.count)? {
             return Some(Some(self.choose_source(read)?));
         }
-        if self.goal == Goal::Schedule {
+        if self.sought == Sought::Schedule {
             return Some(None);
         }
         self.burn(self.ops / READS_OF_STEP)?;

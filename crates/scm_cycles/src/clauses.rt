@@ -4,7 +4,7 @@ use scm_orders::Derivation;
 use std::alloc::Global;
 
 /// The most lines of all blocks together.
-const MOST_LINES: usize = 1 << 22;
+const MOST_BLOCK_LINES: usize = 1 << 22;
 
 /// What isn't all so; the negations of that, of which one is true, with the two that are watched first; the block that shows
 /// it, and how many steps were outside of blocks then.
@@ -51,7 +51,7 @@ impl Clauses {
     ) -> Option<u32> {
         let k = self.len()?;
         self.lines = self.lines.saturating_add(block.lines.len());
-        let is_full = self.lines > MOST_LINES;
+        let is_full = self.lines > MOST_BLOCK_LINES;
         self.list
             .push(Clause {
                 supposed,

@@ -10,7 +10,7 @@ const PART_OF_LIST: usize = 8;
 
 /// That the one operation comes before the other, known since this level.
 #[derive(Clone, Copy)]
-pub(crate) struct Order {
+pub(crate) struct KnownOrder {
     pub(crate) from: u32,
     pub(crate) to: u32,
     pub(crate) level: u32,
@@ -22,9 +22,9 @@ pub(crate) struct Order {
 pub(crate) struct Conflict {
     pub(crate) closing: u32,
     pub(crate) level: u32,
-    pub(crate) orders: Vec<Order>,
+    pub(crate) orders: Vec<KnownOrder>,
     pub(crate) steps: Vec<u32>,
-    is_marked: Vec<bool>,
+    is_seen: Vec<bool>,
     open: u32,
 }
 
@@ -36,16 +36,16 @@ impl Conflict {
             level,
             orders: Vec::new(alloc),
             steps: Vec::new(alloc),
-            is_marked: vec![in alloc; false; count as usize].ok()?,
+            is_seen: vec![in alloc; false; count as usize].ok()?,
             open: 0,
         })
     }
 
-    // Marks a step, if it isn't yet. Whether it is new.
-    fn mark(&mut self, id: u32) -> Option<bool> {
-        let is_marked = self.is_marked.get_mut(id as usize)?;
-        let is_new = !*is_marked;
-        *is_marked = true;
+    // Whether the step is seen for the first time.
+    fn see(&mut self, id: u32) -> Option<bool> {
+        let is_seen = self.is_seen.get_mut(id as usize)?;
+        let is_new = !*is_seen;
+        *is_seen = true;
         Some(is_new)
     }
 
@@ -111,9 +111,7 @@ impl Search {
     fn resolve(&mut self, conflict: &mut Conflict) -> Option<()> {
         for back in 1..=conflict.closing {
             let id = conflict.closing.checked_sub(back)?;
-            if !*conflict.is_marked.get(id as usize)?
-                || self.steps.get(id)?.level < conflict.level
-            {
+            if !*conflict.is_seen.get(id as usize)? || self.steps.get(id)?.level < conflict.level {
                 continue;
             }
             if conflict.open <= 1 {
@@ -155,7 +153,7 @@ impl Search {
 
     fn add_step(&mut self, conflict: &mut Conflict, id: u32) -> Option<()> {
         let step = self.steps.get(id)?;
-        if step.level == 0 || !conflict.mark(id)? {
+        if step.level == 0 || !conflict.see(id)? {
             return Some(());
         }
         self.choices.bump(step.claim)?;
@@ -173,7 +171,7 @@ impl Search {
             return Some(());
         }
         self.bump_way(from, to)?;
-        conflict.orders.push(Order { from, to, level }).ok()
+        conflict.orders.push(KnownOrder { from, to, level }).ok()
     }
 
     fn bump_way(&mut self, from: u32, to: u32) -> Option<()> {

@@ -2,8 +2,7 @@
 use crate::cases::Ending;
 use crate::conflict::Conflict;
 use crate::gathering::gather;
-use crate::goals::Goal;
-use crate::search::Search;
+use crate::search::{Search, Sought};
 use scm_clocks::{Given, Part, counts_of};
 use scm_orders::Derivation;
 use scm_sequences::{Lengths, Sequences};
@@ -41,7 +40,7 @@ pub fn find_cycle(
         whole: whole.as_slice(),
     };
     let given = Given::new(alloc, &part)?;
-    let mut search = Search::new(alloc, Goal::Refutation, given, fuel)?;
+    let mut search = Search::new(alloc, Sought::Refutation, given, fuel)?;
     let conflict = refute(&mut search)?;
     gather(alloc, &search, &conflict)
 }

@@ -25,8 +25,8 @@ struct Gathering<'a> {
 /// The lines that end with an operation before itself, of all that the contradiction needs.
 pub(crate) fn gather(alloc: Global, search: &Search, conflict: &Conflict) -> Option<Derivation> {
     let mut gathering = Gathering::new(alloc, search, conflict)?;
-    gathering.mark_closing()?;
-    gathering.mark_all()?;
+    gathering.need_closing()?;
+    gathering.need_all()?;
     gathering.write_all()?;
     gathering.close()?;
     let Gathering { lines, .. } = gathering;
@@ -38,8 +38,8 @@ pub(crate) fn gather(alloc: Global, search: &Search, conflict: &Conflict) -> Opt
 pub(crate) fn draft(alloc: Global, search: &Search, conflict: &Conflict) -> Option<Derivation> {
     let mut gathering = Gathering::new(alloc, search, conflict)?;
     gathering.suppose()?;
-    gathering.mark_closing()?;
-    gathering.mark_steps()?;
+    gathering.need_closing()?;
+    gathering.need_steps()?;
     gathering.write_steps()?;
     gathering.close()?;
     let Gathering { lines, .. } = gathering;
@@ -91,7 +91,7 @@ impl<'a> Gathering<'a> {
         self.lines.add(fact, Rule::Assumed, &[])
     }
 
-    fn mark(&mut self, id: u32) -> Option<()> {
+    fn need(&mut self, id: u32) -> Option<()> {
         if self.conflict.has(id) || self.written.is_outside(id)? {
             return Some(());
         }
@@ -99,62 +99,62 @@ impl<'a> Gathering<'a> {
         Some(())
     }
 
-    fn mark_closing(&mut self) -> Option<()> {
+    fn need_closing(&mut self) -> Option<()> {
         let closing = self.conflict.closing;
         let Claim { from, to, .. } = self.search.steps.get(closing)?.claim;
         *self.is_needed.get_mut(closing as usize)? = true;
         if from != to {
-            self.mark_way(to, from, self.conflict.level)?;
+            self.need_way(to, from, self.conflict.level)?;
         }
         Some(())
     }
 
-    fn mark_way(&mut self, from: u32, to: u32, level: u32) -> Option<()> {
+    fn need_way(&mut self, from: u32, to: u32, level: u32) -> Option<()> {
         for piece in &self.search.pieces(from, to, level)? {
             if let Piece::Step(id) = *piece {
-                self.mark(id)?;
+                self.need(id)?;
             }
         }
         Some(())
     }
 
     // Marks the steps that are needed, from the newest on.
-    fn mark_steps(&mut self) -> Option<()> {
+    fn need_steps(&mut self) -> Option<()> {
         for back in 0..=self.conflict.closing {
-            self.mark_needs(self.conflict.closing.checked_sub(back)?)?;
+            self.need_all_of(self.conflict.closing.checked_sub(back)?)?;
         }
         Some(())
     }
 
     // Marks the steps and the clauses that are needed, from the newest on.
-    fn mark_all(&mut self) -> Option<()> {
+    fn need_all(&mut self) -> Option<()> {
         let mut clauses = self.search.clauses.len()?;
         let count = self.conflict.closing.checked_add(1)?;
         for back in 0..=count {
             let left = count.checked_sub(back)?;
-            clauses = self.mark_blocks(clauses, left)?;
+            clauses = self.need_blocks(clauses, left)?;
             if let Some(id) = left.checked_sub(1) {
-                self.mark_needs(id)?;
+                self.need_all_of(id)?;
             }
         }
         Some(())
     }
 
     // Marks what the blocks need that were written after so many steps. How many clauses are left.
-    fn mark_blocks(&mut self, clauses: u32, steps: u32) -> Option<u32> {
+    fn need_blocks(&mut self, clauses: u32, steps: u32) -> Option<u32> {
         for back in 0..clauses {
             let k = clauses.checked_sub(back)?.checked_sub(1)?;
             if self.search.clauses.base(k)? < steps {
                 return k.checked_add(1);
             }
             if *self.is_clause_needed.get(k as usize)? {
-                self.mark_block(k)?;
+                self.need_block(k)?;
             }
         }
         Some(0)
     }
 
-    fn mark_block(&mut self, k: u32) -> Option<()> {
+    fn need_block(&mut self, k: u32) -> Option<()> {
         let block = self.search.clauses.block(k)?;
         for line in &block.lines {
             if let Rule::Lemma { end } = line.rule {
@@ -163,13 +163,13 @@ impl<'a> Gathering<'a> {
         }
         for hint in &block.hints {
             if *hint >= OUTSIDE {
-                self.mark(*hint & !OUTSIDE)?;
+                self.need(*hint & !OUTSIDE)?;
             }
         }
         Some(())
     }
 
-    fn mark_needs(&mut self, id: u32) -> Option<()> {
+    fn need_all_of(&mut self, id: u32) -> Option<()> {
         if !*self.is_needed.get(id as usize)? {
             return Some(());
         }
@@ -180,10 +180,10 @@ impl<'a> Gathering<'a> {
         for at in self.search.steps.needs(id)? {
             let need = self.search.steps.need(at)?;
             if let Need::Step(id) = need {
-                self.mark(id)?;
+                self.need(id)?;
             }
             for (from, to) in Search::orders_of(need).into_iter().flatten() {
-                self.mark_way(from, to, level)?;
+                self.need_way(from, to, level)?;
             }
         }
         Some(())

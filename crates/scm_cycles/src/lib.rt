@@ -16,7 +16,6 @@ mod conflict;
 mod evidence;
 mod finding;
 mod gathering;
-mod goals;
 mod lines;
 mod narrowing;
 mod pieces;

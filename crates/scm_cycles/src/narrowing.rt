@@ -1,4 +1,4 @@
-//! What falls off at both ends of what is left for a read, and whether the rest tells something.
+//! What falls off at both ends of what is left for a read, and whether what stays tells something.
 use crate::candidates::Bounds;
 use crate::search::Search;
 use scm_clocks::is_covered;
@@ -14,12 +14,12 @@ struct Hidden {
 
 /// Of what is left for a read: how many writes, and whether first contents are.
 #[derive(Clone, Copy)]
-pub(crate) struct Rest {
+pub(crate) struct CandidatesLeft {
     pub(crate) writes: u32,
     pub(crate) is_first_left: bool,
 }
 
-impl Rest {
+impl CandidatesLeft {
     /// How much is left.
     pub(crate) fn len(self) -> u32 {
         self.writes.saturating_add(u32::from(self.is_first_left))
@@ -29,7 +29,7 @@ impl Rest {
 impl Search {
     /// Leaves out what is hidden from the read, what comes after it, and what steps rule out there, at both ends of each
     /// process. What is left.
-    pub(crate) fn narrow(&mut self, read: u32, cell: u32, value: u32) -> Option<Rest> {
+    pub(crate) fn narrow(&mut self, read: u32, cell: u32, value: u32) -> Option<CandidatesLeft> {
         let hidden = self.hidden(read, cell)?;
         let mut writes: u32 = 0;
         for process in 0..self.procs {
@@ -46,7 +46,7 @@ impl Search {
             writes = writes.saturating_add(new.len());
         }
         let is_first_left = !hidden.is_written && self.may_see_first(read, cell, value)?;
-        Some(Rest {
+        Some(CandidatesLeft {
             writes,
             is_first_left,
         })
@@ -110,11 +110,11 @@ impl Search {
     }
 
     /// Whether what is left tells something that isn't known: by what all of it comes after, or before.
-    pub(crate) fn is_telling(&self, read: u32, cell: u32, rest: Rest) -> Option<bool> {
-        if rest.writes == 0 || rest.len() == 1 {
+    pub(crate) fn is_telling(&self, read: u32, cell: u32, left: CandidatesLeft) -> Option<bool> {
+        if left.writes == 0 || left.len() == 1 {
             return Some(true);
         }
-        let is_after = !rest.is_first_left && self.is_after_more(read)?;
+        let is_after = !left.is_first_left && self.is_after_more(read)?;
         Some(is_after || self.is_before_more(read, cell)?)
     }
 

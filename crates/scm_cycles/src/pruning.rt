@@ -1,5 +1,5 @@
 //! What a contradiction can do without.
-use crate::conflict::{Conflict, Order};
+use crate::conflict::{Conflict, KnownOrder};
 use crate::pieces::Piece;
 use crate::search::Search;
 use crate::steps::{Need, Why};
@@ -26,7 +26,7 @@ impl Search {
         Some(kept)
     }
 
-    fn orders_kept(&self, conflict: &Conflict) -> Option<Vec<Order>> {
+    fn orders_kept(&self, conflict: &Conflict) -> Option<Vec<KnownOrder>> {
         let mut kept = Vec::new(self.alloc);
         for order in &conflict.orders {
             if !self.is_shown(conflict, *order)? {
@@ -37,7 +37,7 @@ impl Search {
     }
 
     // Whether another order, or a step, shows this one.
-    fn is_shown(&self, conflict: &Conflict, order: Order) -> Option<bool> {
+    fn is_shown(&self, conflict: &Conflict, order: KnownOrder) -> Option<bool> {
         let ends = (order.from, order.to);
         for other in &conflict.orders {
             let others = (other.from, other.to);

@@ -3,10 +3,10 @@ use crate::claims::{Claim, Kind};
 use crate::evidence::Goal;
 use crate::search::Search;
 use crate::steps::{Need, Why};
-use crate::views::{Left, View};
+use crate::views::{SourcesLeft, View};
 use crate::waiting::News;
 
-/// How many times more a visit of an open read burns than one of another.
+/// How many times as much a visit burns of a read whose source is open as of one whose source is settled.
 const OPEN_VISIT: u32 = 3;
 
 impl Search {
@@ -54,9 +54,9 @@ impl Search {
     fn visit_open(&mut self, read: u32, cell: u32, value: u32) -> Option<()> {
         if self.candidates.is_some() {
             self.burn(self.procs.saturating_mul(OPEN_VISIT))?;
-            let rest = self.narrow(read, cell, value)?;
-            self.note_left(read, rest.len())?;
-            if !self.is_telling(read, cell, rest)? {
+            let left = self.narrow(read, cell, value)?;
+            self.note_left(read, left.len())?;
+            if !self.is_telling(read, cell, left)? {
                 return Some(());
             }
         }
@@ -68,17 +68,17 @@ impl Search {
     // Draws what follows from what is left for the read.
     fn look(&mut self, view: &View) -> Option<()> {
         match view.left() {
-            Left::Nothing if !view.is_first_left => {
+            SourcesLeft::Nothing if !view.is_first_left => {
                 let claim = Claim::before(view.read, view.read);
                 self.draw_by(view, claim, Why::AfterAll, Goal::Nothing)?;
             }
-            Left::Only(write) if !view.is_first_left => {
+            SourcesLeft::Only(write) if !view.is_first_left => {
                 let claim = Claim::sees(write, view.read);
                 let id = self.draw_by(view, claim, Why::Source, Goal::Nothing)?;
                 self.settle(claim, id)?;
             }
             left => {
-                if let Left::Nothing = left {
+                if let SourcesLeft::Nothing = left {
                     self.settle_first(view)?;
                 }
                 self.draw_around(view)?;

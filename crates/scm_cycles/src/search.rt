@@ -5,7 +5,6 @@ use crate::cases::Restarts;
 use crate::choices::Choices;
 use crate::claims::Claim;
 use crate::clauses::Clauses;
-use crate::goals::Goal;
 use crate::rises::Rises;
 use crate::settled::Settled;
 use crate::steps::{Need, Steps, Why};
@@ -21,12 +20,21 @@ const CHANGES_OF_NUMBER: u64 = 64;
 /// How many entries of a list are looked at as fast as one unit of fuel is burnt.
 const STEPS_OF_FUEL: usize = 32;
 
+/// What is looked for.
+#[derive(Clone, Copy, PartialEq, Eq)]
+pub(crate) enum Sought {
+    /// What reads see in some schedule.
+    Schedule,
+    /// A contradiction, with the lines of what it needs.
+    Refutation,
+}
+
 /// Clocks (for each operation, how many of each process come before it), with what raised them, and the steps that were
 /// drawn. A method that draws gives `None` where the fuel is spent.
 #[derive(Drop)]
 pub(crate) struct Search {
     pub(crate) alloc: Global,
-    pub(crate) goal: Goal,
+    pub(crate) sought: Sought,
     pub(crate) numbering: Numbering,
     pub(crate) values: Values,
     pub(crate) writes: Writes,
@@ -62,7 +70,7 @@ pub(crate) struct Search {
 
 /// What a search of so many operations writes on.
 #[derive(Drop)]
-struct Room {
+struct Workspace {
     steps: Steps,
     settled: Settled,
     waiting: Waiting,
@@ -73,10 +81,10 @@ struct Room {
     flags: Flags,
 }
 
-impl Room {
-    fn new(alloc: Global, given: &Given, ops: u32, procs: u32) -> Option<Room> {
+impl Workspace {
+    fn new(alloc: Global, given: &Given, ops: u32, procs: u32) -> Option<Workspace> {
         let cells = u32::try_from(given.values.firsts().len()).ok()?;
-        Some(Room {
+        Some(Workspace {
             steps: Steps::new(alloc, ops)?,
             settled: Settled::new(alloc, ops, cells)?,
             waiting: Waiting::new(alloc, ops)?,
@@ -90,12 +98,12 @@ impl Room {
 }
 
 impl Search {
-    pub(crate) fn new(alloc: Global, goal: Goal, given: Given, fuel: u64) -> Option<Search> {
+    pub(crate) fn new(alloc: Global, sought: Sought, given: Given, fuel: u64) -> Option<Search> {
         let (procs, ops) = (given.numbering.procs()?, given.numbering.len()?);
         let numbers = u64::from(ops).checked_mul(u64::from(procs))?;
         let fuel = fuel.checked_sub(numbers)?;
         let most_changes = numbers.checked_mul(CHANGES_OF_NUMBER)?;
-        let room = Room::new(alloc, &given, ops, procs)?;
+        let workspace = Workspace::new(alloc, &given, ops, procs)?;
         let Given {
             numbering,
             values,
@@ -105,27 +113,27 @@ impl Search {
         } = given;
         Some(Search {
             alloc,
-            goal,
+            sought,
             numbering,
             values,
             writes,
             writers,
             whole,
-            steps: room.steps,
+            steps: workspace.steps,
             procs,
             ops,
-            settled: room.settled,
-            waiting: room.waiting,
+            settled: workspace.settled,
+            waiting: workspace.waiting,
             trail: Trail::new(alloc),
-            choices: room.choices,
-            clauses: room.clauses,
+            choices: workspace.choices,
+            clauses: workspace.clauses,
             restarts: Restarts::FIRST,
             skew: None,
-            clocks: room.clocks,
+            clocks: workspace.clocks,
             afters: None,
             candidates: None,
-            rises: room.rises,
-            flags: room.flags,
+            rises: workspace.rises,
+            flags: workspace.flags,
             closing: None,
             fuel,
             most_changes,

@@ -1,8 +1,7 @@
 //! What each read sees in some schedule, as a guess.
 use crate::cases::Ending;
 use crate::claims::Kind;
-use crate::goals::Goal;
-use crate::search::Search;
+use crate::search::{Search, Sought};
 use scm_clocks::{Clocks, Given};
 use std::alloc::Global;
 use std::ops::Range;
@@ -10,15 +9,15 @@ use std::ops::Range;
 /// How many skews are supposed one after the other before none is, and by which part of the first one they grow.
 pub const SKEWS: u64 = 4;
 
-const GROWTH: u64 = 5;
+const SKEW_GROWTH: u64 = 5;
 
 /// How much less than two for each doubling the first skew is, and what it is for the shortest traces, in tenths.
-const LESS: u64 = 30;
+const SKEW_OFFSET: u64 = 30;
 
-const LEAST: u64 = 18;
+const LEAST_SKEW: u64 = 18;
 
 /// How many hundredths of the fuel that is left each skew may burn.
-const SHARE: u64 = 85;
+const FUEL_SHARE: u64 = 85;
 
 /// What each read may see in a schedule: the number of a write; or, where it is first contents, the number of the cell after
 /// those of the operations. With it the clocks of what was drawn from that, and under which skew it was found.
@@ -27,7 +26,7 @@ pub struct Guess {
     pub given: Given,
     pub sources: Vec<Option<u32>>,
     pub clocks: Clocks,
-    pub rung: u64,
+    pub skew_number: u64,
 }
 
 /// What reads may see in a schedule: where no process gets farther ahead of another than by the skews of these numbers, one
@@ -37,21 +36,21 @@ pub struct Guess {
 pub fn find_sources(
     alloc: Global,
     given: Given,
-    rungs: Range<u64>,
+    skew_numbers: Range<u64>,
     fuel: &mut u64,
 ) -> Option<Guess> {
     let mut given = given;
-    for rung in rungs {
-        let share = if rung < SKEWS {
-            fuel.saturating_mul(SHARE) / 100
+    for skew_number in skew_numbers {
+        let share = if skew_number < SKEWS {
+            fuel.saturating_mul(FUEL_SHARE) / 100
         } else {
             *fuel
         };
-        let mut search = Search::new(alloc, Goal::Schedule, given, share)?;
-        let settled = search.settle_under(rung);
+        let mut search = Search::new(alloc, Sought::Schedule, given, share)?;
+        let settled = search.settle_under(skew_number);
         *fuel = fuel.saturating_sub(share.saturating_sub(search.fuel));
         if settled.is_some() {
-            return search.guess(rung);
+            return search.guess(skew_number);
         }
         (given, _) = search.into_parts();
     }
@@ -75,16 +74,18 @@ impl Search {
         Some(
             u64::from(doublings)
                 .saturating_mul(2)
-                .saturating_sub(LESS)
-                .max(LEAST),
+                .saturating_sub(SKEW_OFFSET)
+                .max(LEAST_SKEW),
         )
     }
 
     // Finds what each read may see, where processes get no farther ahead of each other than by the skew of this number.
-    fn settle_under(&mut self, rung: u64) -> Option<()> {
-        if rung < SKEWS {
+    fn settle_under(&mut self, skew_number: u64) -> Option<()> {
+        if skew_number < SKEWS {
             let first = self.first_skew()?;
-            self.suppose_skew(first.saturating_add(first.saturating_mul(rung) / GROWTH))?;
+            self.suppose_skew(first.saturating_add(
+                first.saturating_mul(skew_number) / SKEW_GROWTH,
+            ))?;
         }
         self.look_back()?;
         self.touch_all()?;
@@ -94,14 +95,14 @@ impl Search {
         }
     }
 
-    fn guess(self, rung: u64) -> Option<Guess> {
+    fn guess(self, skew_number: u64) -> Option<Guess> {
         let sources = self.sources()?;
         let (given, clocks) = self.into_parts();
         Some(Guess {
             given,
             sources,
             clocks,
-            rung,
+            skew_number,
         })
     }
 

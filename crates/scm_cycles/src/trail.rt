@@ -4,7 +4,7 @@ use std::alloc::Global;
 
 /// How much there was before a supposition.
 #[derive(Clone, Copy)]
-struct Mark {
+struct Sizes {
     steps: u32,
     rises: usize,
     changes: usize,
@@ -13,24 +13,24 @@ struct Mark {
     candidates: usize,
 }
 
-/// One mark for each supposition, and the counts of what was left for reads that changed under them.
+/// The sizes before each supposition, and the counts of what was left for reads that changed under them.
 #[derive(Drop)]
 pub(crate) struct Trail {
-    marks: Vec<Mark>,
+    sizes: Vec<Sizes>,
     lefts: Vec<(u32, u32)>,
 }
 
 impl Trail {
     pub(crate) fn new(alloc: Global) -> Trail {
         Trail {
-            marks: Vec::new(alloc),
+            sizes: Vec::new(alloc),
             lefts: Vec::new(alloc),
         }
     }
 
     /// How many suppositions there are.
     pub(crate) fn level(&self) -> u32 {
-        u32::try_from(self.marks.len()).unwrap_or(u32::MAX)
+        u32::try_from(self.sizes.len()).unwrap_or(u32::MAX)
     }
 
     /// So much was left for the read before.
@@ -40,14 +40,14 @@ impl Trail {
 
     /// How many steps there were before any supposition.
     pub(crate) fn first_steps(&self) -> Option<u32> {
-        Some(self.marks.first()?.steps)
+        Some(self.sizes.first()?.steps)
     }
 }
 
 impl Search {
     /// Before the next supposition.
     pub(crate) fn open_level(&mut self) -> Option<()> {
-        let mark = Mark {
+        let sizes = Sizes {
             steps: self.steps.len()?,
             rises: self.rises.len(),
             changes: self.clocks.changes(),
@@ -55,7 +55,7 @@ impl Search {
             lefts: self.trail.lefts.len(),
             candidates: self.candidates.as_ref()?.changes(),
         };
-        self.trail.marks.push(mark).ok()
+        self.trail.sizes.push(sizes).ok()
     }
 
     /// Takes back all suppositions but the first so many.
@@ -64,23 +64,23 @@ impl Search {
         self.flags.clear();
         self.waiting.clear();
         for _ in level..self.trail.level() {
-            let mark = self.trail.marks.pop()?;
-            self.undo(mark)?;
+            let sizes = self.trail.sizes.pop()?;
+            self.undo(sizes)?;
         }
         Some(())
     }
 
-    fn undo(&mut self, mark: Mark) -> Option<()> {
-        self.clocks.take_back(mark.changes)?;
-        self.afters.as_mut()?.take_back(mark.afters)?;
-        self.rises.take_back(mark.rises)?;
-        let steps = self.candidates.as_mut()?.take_back(mark.candidates)?;
+    fn undo(&mut self, sizes: Sizes) -> Option<()> {
+        self.clocks.take_back(sizes.changes)?;
+        self.afters.as_mut()?.take_back(sizes.afters)?;
+        self.rises.take_back(sizes.rises)?;
+        let steps = self.candidates.as_mut()?.take_back(sizes.candidates)?;
         self.burn_for(steps)?;
-        for _ in mark.lefts..self.trail.lefts.len() {
+        for _ in sizes.lefts..self.trail.lefts.len() {
             let (read, left) = self.trail.lefts.pop()?;
             self.choices.set_left(read, left)?;
         }
-        for _ in mark.steps..self.steps.len()? {
+        for _ in sizes.steps..self.steps.len()? {
             let step = self.steps.take_back()?;
             let read = step.claim.to;
             let cell = self.numbering.cell(read)?;

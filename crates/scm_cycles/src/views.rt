@@ -15,7 +15,7 @@ pub(crate) struct Share {
 /// Where writes of one process stand in the list of a value: those from `begin` to `end`, of which those below `low` are
 /// hidden, and those from `high` on come after the read.
 #[derive(Clone, Copy)]
-struct Bounds {
+struct Ranges {
     begin: usize,
     low: usize,
     high: usize,
@@ -30,14 +30,14 @@ pub(crate) fn part(list: &[u32], from: usize, to: usize) -> &[u32] {
 }
 
 impl Share {
-    // Of the writes within these bounds, where between `from` and `to` are left.
-    fn of(list: &[u32], bounds: Bounds, from: usize, to: usize) -> Share {
+    // Of the writes within these ranges, where between `from` and `to` are left.
+    fn of(list: &[u32], ranges: Ranges, from: usize, to: usize) -> Share {
         let left = part(list, from, to);
         Share {
-            hidden: part(list, bounds.begin, bounds.low).last().copied(),
+            hidden: part(list, ranges.begin, ranges.low).last().copied(),
             left: left.first().copied().zip(left.last().copied()),
-            later: part(list, bounds.high, bounds.end).first().copied(),
-            unseen: [(bounds.low, from), (to, bounds.high)],
+            later: part(list, ranges.high, ranges.end).first().copied(),
+            unseen: [(ranges.low, from), (to, ranges.high)],
         }
     }
 }
@@ -56,19 +56,19 @@ pub(crate) struct View {
 
 /// How much of it is left beside first contents.
 #[derive(Clone, Copy)]
-pub(crate) enum Left {
+pub(crate) enum SourcesLeft {
     Nothing,
     Only(u32),
     Several,
 }
 
 impl View {
-    pub(crate) fn left(&self) -> Left {
-        let mut left = Left::Nothing;
+    pub(crate) fn left(&self) -> SourcesLeft {
+        let mut left = SourcesLeft::Nothing;
         for (first, last) in self.shares.iter().filter_map(|share| share.left) {
             left = match left {
-                Left::Nothing if first == last => Left::Only(first),
-                _ => Left::Several,
+                SourcesLeft::Nothing if first == last => SourcesLeft::Only(first),
+                _ => SourcesLeft::Several,
             };
         }
         left
@@ -151,28 +151,28 @@ impl Search {
             (self.after(view.read, process)?, count)
         };
         let hidden = self.hidden_before(view, process)?;
-        let bounds = Bounds {
+        let ranges = Ranges {
             begin: self.writers.count(view.value, start)?,
             low: self.writers.count(view.value, start.checked_add(hidden)?)?,
             high: self.writers.count(view.value, start.checked_add(later)?)?,
             end: self.writers.count(view.value, start.checked_add(end)?)?,
         };
-        if bounds.begin < bounds.end {
-            let share = self.share(view, bounds)?;
+        if ranges.begin < ranges.end {
+            let share = self.share(view, ranges)?;
             view.shares.push(share).ok()?;
         }
         Some(())
     }
 
-    // What is left within these bounds, but for what steps rule out at both ends.
-    fn share(&self, view: &View, bounds: Bounds) -> Option<Share> {
+    // What is left within these ranges, but for what steps rule out at both ends.
+    fn share(&self, view: &View, ranges: Ranges) -> Option<Share> {
         let writers = self.writers.of(view.value)?;
-        let (mut from, mut to) = (bounds.low, bounds.high);
+        let (mut from, mut to) = (ranges.low, ranges.high);
         if !self.settled.unseen(view.read)?.is_empty() {
             from = self.skip(view, from, to)?;
             to = self.skip_back(view, from, to)?;
         }
-        Some(Share::of(writers, bounds, from, to))
+        Some(Share::of(writers, ranges, from, to))
     }
 
     // From where on the first write isn't ruled out by a step.

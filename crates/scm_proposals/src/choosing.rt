@@ -80,7 +80,7 @@ impl Walk {
         let cell = facts.numbering.cell(x)?;
         let writer = self.memory.writer(cell)?;
         let is_own = facts.source(x) == Some(writer);
-        if self.is_barred(x, cell)? || self.awaited.readers.get(writer)? > u32::from(is_own) {
+        if self.is_barred(x, cell)? || self.remaining.readers.get(writer)? > u32::from(is_own) {
             return None;
         }
         if is_own {
@@ -105,19 +105,19 @@ impl Walk {
         let facts = &self.order.facts;
         let is_own = facts.source(x).is_none() && facts.found(x) == Some(value);
         Some(
-            self.awaited.reads.get(value)? <= u32::from(is_own)
-                || self.awaited.writes.get(value)? > 0,
+            self.remaining.reads.get(value)? <= u32::from(is_own)
+                || self.remaining.writes.get(value)? > 0,
         )
     }
 
     // Whether nobody reads what `x` writes, and nobody what it overwrites.
     fn is_unread(&self, x: u32, cell: u32) -> Option<bool> {
         let written = self.order.facts.written(x)?;
-        if self.awaited.readers.get(x)? > 0 || self.awaited.reads.get(written)? > 0 {
+        if self.remaining.readers.get(x)? > 0 || self.remaining.reads.get(written)? > 0 {
             return Some(false);
         }
         match self.memory.value(cell) {
-            Some(value) => Some(self.awaited.reads.get(value)? == 0),
+            Some(value) => Some(self.remaining.reads.get(value)? == 0),
             None => Some(true),
         }
     }

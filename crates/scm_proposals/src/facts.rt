@@ -3,6 +3,7 @@ use crate::sources::Sources;
 use scm_clocks::{Given, Numbering, Values, Writes};
 use std::alloc::Global;
 
+/// The operations by number, what each read finds and each write leaves, the writes of each cell, and the sources that are known.
 #[derive(Drop)]
 pub(crate) struct Facts {
     pub(crate) numbering: Numbering,

@@ -3,14 +3,14 @@ use scm_sequences::Lengths;
 
 /// The fuel for each situation that the other search would look at: so much for four processes, and at least and at most so
 /// much. With it the one takes about as long as the other.
-const FUEL_OF_FOUR: u64 = 6;
+const SEARCH_FUEL_OF_FOUR: u64 = 6;
 
-const LEAST_FUEL: u64 = 7;
+const LEAST_SEARCH_FUEL: u64 = 7;
 
-const MOST_FUEL: u64 = 36;
+const MOST_SEARCH_FUEL: u64 = 36;
 
 /// How many times as much windows may burn where no word has room for a situation: one in full takes longer to look at.
-const FUEL_IN_FULL: u64 = 3;
+const WINDOW_FUEL_IN_FULL: u64 = 3;
 
 const LONGEST_WORD: usize = u128::BITS as usize;
 
@@ -26,10 +26,10 @@ pub(crate) fn fuel_of_search(lengths: &Lengths, room: usize) -> u64 {
         return 0;
     }
     let fuel = (lengths.procs() as u64)
-        .saturating_mul(FUEL_OF_FOUR)
+        .saturating_mul(SEARCH_FUEL_OF_FOUR)
         .div_ceil(4)
-        .max(LEAST_FUEL)
-        .min(MOST_FUEL);
+        .max(LEAST_SEARCH_FUEL)
+        .min(MOST_SEARCH_FUEL);
     (room as u64).saturating_mul(fuel)
 }
 
@@ -41,7 +41,7 @@ pub(crate) fn fuel_of_windows(lengths: &Lengths, cells: usize, fuel: u64) -> u64
         bits = bits.saturating_add(u32::BITS.saturating_sub(unused) as usize);
     }
     if bits > LONGEST_WORD {
-        fuel.saturating_mul(FUEL_IN_FULL)
+        fuel.saturating_mul(WINDOW_FUEL_IN_FULL)
     } else {
         fuel
     }

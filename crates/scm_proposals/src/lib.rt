@@ -2,7 +2,6 @@
 //! believed, and no contract here says more than that a call is safe and ends; `scm_schedules::is_legal` is the judge.
 #![tactic(auto)]
 
-mod awaited;
 mod beginning;
 mod choosing;
 mod ending;
@@ -13,6 +12,7 @@ mod numbers;
 mod order;
 mod proposal;
 mod rank;
+mod remaining;
 mod saturation;
 mod sources;
 mod walk;

@@ -40,14 +40,17 @@ impl Memory {
         *self.contents.get(cell as usize)?
     }
 
+    /// Which operation wrote what the cell holds.
     pub(crate) fn writer(&self, cell: u32) -> Option<u32> {
         self.writers.get(cell)
     }
 
+    /// How often the cell was written.
     pub(crate) fn version(&self, cell: u32) -> Option<u32> {
         self.versions.get(cell)
     }
 
+    /// What is to be put back to take the next write of the cell back.
     pub(crate) fn before(&self, cell: u32) -> Option<Before> {
         Some(Before {
             value: self.value(cell),
@@ -56,6 +59,7 @@ impl Memory {
         })
     }
 
+    /// Takes the last write of the cell back.
     pub(crate) fn put_back(&mut self, cell: u32, before: Before) -> Option<()> {
         *self.contents.get_mut(cell as usize)? = before.value;
         self.writers.set(cell, before.writer)?;

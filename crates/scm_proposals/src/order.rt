@@ -4,7 +4,7 @@ use crate::numbers::Numbers;
 use scm_clocks::{Clocks, Flags, is_covered};
 use std::alloc::Global;
 
-/// How far beyond the front operations are visited during the walk.
+/// How many operations of a process ahead are visited during the walk.
 const WINDOW: u32 = 24;
 
 /// The clocks of all operations, and how far each process has come. `None` from a method that raises clocks says that
@@ -57,7 +57,7 @@ impl Order {
         Some(())
     }
 
-    /// Ends the saturation: from now on clocks can be taken back, and only operations near the front are visited.
+    /// Ends the saturation: from now on clocks can be taken back, and only operations a little ahead are visited.
     pub(crate) fn begin_walk(&mut self) {
         self.clocks.record();
         self.window = WINDOW;

@@ -11,17 +11,17 @@ use std::alloc::Global;
 
 /// How many visits and moves are made at most for each operation that is left: so many, and so many for each process. The
 /// walks that come to their end need a third of it.
-const MOST_FUEL: u64 = 8;
+const MOST_WALK_FUEL: u64 = 8;
 
-const MOST_FUEL_OF_PROCESS: u64 = 8;
+const MOST_WALK_FUEL_OF_PROCESS: u64 = 8;
 
 /// How many are made for each operation, for each situation of the limit, and for any trace. One costs about as much as
 /// a situation that is searched.
-const FUEL: u64 = 8;
+const WALK_FUEL: u64 = 8;
 
-const FUEL_OF_SITUATION: u64 = 2;
+const WALK_FUEL_OF_SITUATION: u64 = 2;
 
-const LEAST_FUEL: u64 = 10_000;
+const LEAST_WALK_FUEL: u64 = 10_000;
 
 /// For how many situations of the limit a walk makes one visit more where it makes no more operations than before.
 const SITUATIONS_OF_PATIENCE: usize = 8;
@@ -46,7 +46,6 @@ pub(crate) struct Proposer<'a> {
     pub(crate) counts: &'a [u32],
     earlier: &'a [u8],
     limit: usize,
-    room: usize,
 }
 
 /// A schedule for the trace with these first contents (`None` is an open cell) and these sequences, cut to these
@@ -74,7 +73,6 @@ pub fn propose(
         counts: counts.as_slice(),
         earlier,
         limit,
-        room,
     };
     let longest = proposer.beginning(earlier.len())?;
     let mut fuel = fuel_of_search(lengths, room);
@@ -198,18 +196,18 @@ impl Proposer<'_> {
     /// How many visits a walk makes at most where it makes no more operations than before.
     fn patience(&self) -> u64 {
         let patience = (self.limit / SITUATIONS_OF_PATIENCE) as u64;
-        patience.saturating_add(LEAST_FUEL)
+        patience.saturating_add(LEAST_WALK_FUEL)
     }
 
     /// The fuel for what is left.
     fn fuel(&self, facts: &Facts) -> u64 {
         let ops = u64::from(facts.ops);
         let most = u64::from(facts.procs)
-            .saturating_mul(MOST_FUEL_OF_PROCESS)
-            .saturating_add(MOST_FUEL);
-        ops.saturating_mul(FUEL)
-            .saturating_add((self.limit as u64).saturating_mul(FUEL_OF_SITUATION))
-            .saturating_add(LEAST_FUEL)
+            .saturating_mul(MOST_WALK_FUEL_OF_PROCESS)
+            .saturating_add(MOST_WALK_FUEL);
+        ops.saturating_mul(WALK_FUEL)
+            .saturating_add((self.limit as u64).saturating_mul(WALK_FUEL_OF_SITUATION))
+            .saturating_add(LEAST_WALK_FUEL)
             .min(ops.saturating_mul(most))
     }
 }

@@ -1,10 +1,10 @@
 //! The walk: one operation after the other.
-use crate::awaited::Awaited;
 use crate::choosing::Choice;
 use crate::memory::{Before, Memory};
 use crate::numbers::Numbers;
 use crate::order::Order;
 use crate::rank::Rank;
+use crate::remaining::Remaining;
 use std::alloc::Global;
 
 /// How many visits the consequences of one write may take.
@@ -22,7 +22,7 @@ pub(crate) struct Walk {
     pub(crate) order: Order,
     pub(crate) memory: Memory,
     pub(crate) last: u32,
-    pub(crate) awaited: Awaited,
+    pub(crate) remaining: Remaining,
     // For each write the version of its cell, and 1, at which it may not be made.
     barred: Numbers,
     bars: Vec<Bar>,
@@ -63,13 +63,13 @@ impl Walk {
     /// Before any operation. Where it makes no more operations than before, it burns no more than `patience`.
     pub(crate) fn new(alloc: Global, order: Order, patience: u64) -> Option<Walk> {
         let memory = Memory::new(alloc, &order.facts)?;
-        let awaited = Awaited::new(alloc, &order.facts)?;
+        let remaining = Remaining::new(alloc, &order.facts)?;
         let barred = Numbers::zeros(alloc, order.facts.ops)?;
         Some(Walk {
             order,
             memory,
             last: 0,
-            awaited,
+            remaining,
             barred,
             bars: Vec::new(alloc),
             made: Vec::new(alloc),
@@ -188,7 +188,7 @@ impl Walk {
         self.last = process;
         self.order.counts.raise(process)?;
         self.order.flag_entering(process)?;
-        self.awaited.remove(&self.order.facts, x)?;
+        self.remaining.remove(&self.order.facts, x)?;
         if let Some(found) = self.order.facts.found(x) {
             self.memory.hold(cell, found)?;
         }
@@ -202,7 +202,7 @@ impl Walk {
         let Made { x, process, before } = self.made.pop()?;
         let cell = self.order.facts.numbering.cell(x)?;
         self.order.counts.lower(process)?;
-        self.awaited.add(&self.order.facts, x)?;
+        self.remaining.add(&self.order.facts, x)?;
         self.memory.put_back(cell, before)
     }
 

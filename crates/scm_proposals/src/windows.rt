@@ -23,12 +23,12 @@ const KEPT: u32 = 7;
 const WHOLE: u32 = 16;
 
 /// The fuel for each operation of a window, at most.
-const FUEL: u64 = 2_000;
+const WINDOW_FUEL: u64 = 2_000;
 
 /// For how many windows a trace is long enough, and for how many processes they cost less than the trace as a whole.
 const LEAST_WINDOWS: u32 = 3;
 
-const MOST_PROCESSES: usize = 16;
+const MOST_PROCESSES_OF_WINDOWS: usize = 16;
 
 /// What was made so far, how wide the next window is, and the number of the first skew that is supposed there.
 #[derive(Drop)]
@@ -36,7 +36,7 @@ struct Progress {
     beginning: Beginning,
     schedule: Vec<u8>,
     width: u32,
-    rung: u64,
+    skew_number: u64,
 }
 
 impl Progress {
@@ -74,14 +74,16 @@ impl Proposer<'_> {
     pub(crate) fn complete_by_windows(&self, fuel: &mut u64) -> Option<Vec<u8>> {
         let longest = self.counts.iter().copied().max()?;
         let width = self.least_width()?;
-        if self.counts.len() > MOST_PROCESSES || longest < LEAST_WINDOWS.saturating_mul(width) {
+        if self.counts.len() > MOST_PROCESSES_OF_WINDOWS
+            || longest < LEAST_WINDOWS.saturating_mul(width)
+        {
             return None;
         }
         let mut progress = Progress {
             beginning: Beginning::new(self.alloc, self.initials, self.counts.len())?,
             schedule: Vec::new(self.alloc),
             width,
-            rung: 0,
+            skew_number: 0,
         };
         for _ in 0..*fuel {
             if progress.beginning.left(self.lengths) == 0 {
@@ -111,10 +113,10 @@ impl Proposer<'_> {
             progress.width.saturating_mul(CHECKED) / WHOLE
         };
         let part = self.part(&progress.beginning, ends.as_slice(), checked);
-        let Some(guess) = self.guess(&part, progress.rung, fuel) else {
+        let Some(guess) = self.guess(&part, progress.skew_number, fuel) else {
             return Some(false);
         };
-        progress.rung = guess.rung;
+        progress.skew_number = guess.skew_number;
         let Some(places) = self.complete_by(guess, fuel) else {
             return Some(false);
         };
@@ -127,20 +129,20 @@ impl Proposer<'_> {
     }
 
     // What reads see in a window, under the skews from this one on.
-    fn guess(&self, part: &Part, rung: u64, fuel: &mut u64) -> Option<Guess> {
+    fn guess(&self, part: &Part, skew_number: u64, fuel: &mut u64) -> Option<Guess> {
         *fuel = fuel.checked_sub(part.size())?;
         let given = Given::new(self.alloc, part)?;
         let most = u64::from(given.numbering.len()?)
-            .saturating_mul(FUEL)
+            .saturating_mul(WINDOW_FUEL)
             .min(*fuel);
         let mut left = most;
-        let guess = find_sources(self.alloc, given, rung..SKEWS, &mut left);
+        let guess = find_sources(self.alloc, given, skew_number..SKEWS, &mut left);
         *fuel = fuel.saturating_sub(most.saturating_sub(left));
         guess
     }
 
-    // Takes back as many places as are kept of a window, for one that is twice as wide. `None` where that is no more, or there
-    // are none.
+    // Takes back as many places as are kept of a window, for one that is twice as wide. `None` where nothing is kept, and where
+    // the window is as wide as can be.
     fn go_back(&self, progress: &mut Progress, fuel: &mut u64) -> Option<()> {
         if progress.schedule.is_empty() {
             return None;
@@ -156,7 +158,7 @@ impl Proposer<'_> {
             .beginning
             .follow(self.sequences, self.lengths, progress.schedule.as_slice());
         progress.width = progress.width.saturating_mul(2);
-        progress.rung = 0;
+        progress.skew_number = 0;
         Some(())
     }
 }

@@ -5,7 +5,7 @@ use std::alloc::Global;
 
 /// Counts of the operations that are not made.
 #[derive(Drop)]
-pub(crate) struct Awaited {
+pub(crate) struct Remaining {
     /// For each writer how many known readers.
     pub(crate) readers: Numbers,
     /// For each value how many reads whose source isn't known.
@@ -14,16 +14,16 @@ pub(crate) struct Awaited {
     pub(crate) writes: Numbers,
 }
 
-impl Awaited {
+impl Remaining {
     /// All operations.
-    pub(crate) fn new(alloc: Global, facts: &Facts) -> Option<Awaited> {
-        let mut awaited = Awaited {
+    pub(crate) fn new(alloc: Global, facts: &Facts) -> Option<Remaining> {
+        let mut remaining = Remaining {
             readers: Numbers::zeros(alloc, facts.ops.checked_add(facts.cells)?)?,
             reads: Numbers::zeros(alloc, facts.values.count())?,
             writes: Numbers::zeros(alloc, facts.values.count())?,
         };
-        awaited.add_all(facts)?;
-        Some(awaited)
+        remaining.add_all(facts)?;
+        Some(remaining)
     }
 
     fn add_all(&mut self, facts: &Facts) -> Option<()> {
