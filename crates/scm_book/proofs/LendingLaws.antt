@@ -9,7 +9,7 @@ use Rattle.scm_cells.specs.Names.{name_eq}
 use Rattle.scm_cells.specs.declared.width.Width.TheVariants.{W}
 use Rattle.scm_cells.specs.CellLists.{Declared, initials_of}
 use Rattle.scm_cells.specs.laws.CellLaws.{length-initials_of}
-use Rattle.scm_frontier.specs.Comparisons.{option_eq-Decides}
+use Rattle.scm_frontier.specs.laws.ComparisonLaws.{option_eq-Decides}
 use Rattle.scm_reach.specs.Kept.{Kept, IsKept}
 use Rattle.scm_reach.specs.laws.MemberLaws.{at_from_IsSomeAnd}
 use Rattle.scm_book.specs.Asking.{CanAsk}

@@ -1,7 +1,8 @@
 -- A known reply is a step of the machine, and leaves all as it is.
-use Rattle.std.proofs.Common.{◌≡◌, ℕ, List, Option, None, Some, IfSome, IsSomeAnd, Result, Ok, Err, MatchResult, inr, refl, reverse, sym, subst}
+use Rattle.std.proofs.Common.{◌≡◌, ◌⊎◌, ℕ, Bool, true, false, List, Option, None, Some, IfSome, IsSomeAnd, Result, Ok, Err, IfOk, MatchResult, inl, inr, refl, reverse, sym, subst}
 use Rattle.std.specs.Map.{lookup}
 use Rattle.std.specs.Option.{option_map}
+use Rattle.std.specs.Result.{result_ok}
 use Rattle.std.proofs.lemmas.Map.Steps.{set_value_same}
 use Rattle.scm_sequences.specs.declared.op.Op.{Op}
 use Rattle.scm_sequences.specs.declared.refusal.Refusal.{Refusal}
@@ -10,8 +11,10 @@ use Rattle.scm_sequences.specs.Traces.{cut_to, trace_of}
 use Rattle.scm_cells.specs.CellLists.{Declared, initials_of}
 use Rattle.scm_cells.specs.Names.{name_eq}
 use Rattle.scm_reach.specs.Members.{Member}
+use Rattle.scm_reach.specs.Work.{HasWhole}
 use Rattle.scm_reach.specs.laws.WorkLaws.{KeepsWork-idle}
 use Rattle.scm_book.specs.declared.reply.Reply.{Reply}
+use Rattle.scm_book.specs.Asking.{IsAsWanted}
 use Rattle.scm_book.specs.Calls.{CallData, opens, claims, releases, reports, sets_mark, goes_back, raises, asks, asks_why, asks_cycle, shows, lists, closes, ReplyData, done, marked, consistent, inconsistent, undecided, because, cycle, unknown, ops, listed, refused, reply_data}
 use Rattle.scm_book.specs.Machine.{Machine, TraceState, trace_named, trace_in}
 use Rattle.scm_book.specs.Plans.{HasSchedule, IsExplained, IsKnown, IsKnownReply}
@@ -54,19 +57,42 @@ explained_asks state mark reply e = (e.fits, λ situations is. subst HasSchedule
 explained_asks_why : (state : TraceState) (mark : Option ℕ) (reply : ReplyData) → IsExplained state mark reply → AsksWhy state mark reply
 explained_asks_why state mark reply e = (e.fits, λ is. subst HasSchedule is e.schedule)
 
--- nothing was done for it
-schedule_idle : (reply : ReplyData) (sequences : List (List Op)) (lengths : List ℕ) (members : List Member) (made : ℕ) → HasSchedule reply → IsKnownBy reply sequences lengths members made members made
-schedule_idle (consistent schedule fixed) sequences lengths members made has = inr (refl, refl)
-schedule_idle inconsistent sequences lengths members made has = absurd has
-schedule_idle (because situations) sequences lengths members made has = absurd has
-schedule_idle undecided sequences lengths members made has = absurd has
-schedule_idle done sequences lengths members made has = absurd has
-schedule_idle (marked mark) sequences lengths members made has = absurd has
-schedule_idle (cycle lines hints) sequences lengths members made has = absurd has
-schedule_idle unknown sequences lengths members made has = absurd has
-schedule_idle (ops shown) sequences lengths members made has = absurd has
-schedule_idle (listed names) sequences lengths members made has = absurd has
-schedule_idle (refused refusal) sequences lengths members made has = absurd has
+-- what holds of each schedule holds of a reply that has one
+pub with_schedule : (P : ReplyData → Type 0) → ((schedule : List ℕ) (fixed : List (List ℕ × ℕ)) → P (consistent schedule fixed)) → (reply : ReplyData) → HasSchedule reply → P reply
+with_schedule P each (consistent schedule fixed) has = each schedule fixed
+with_schedule P each inconsistent has = absurd has
+with_schedule P each (because situations) has = absurd has
+with_schedule P each undecided has = absurd has
+with_schedule P each done has = absurd has
+with_schedule P each (marked mark) has = absurd has
+with_schedule P each (cycle lines hints) has = absurd has
+with_schedule P each unknown has = absurd has
+with_schedule P each (ops shown) has = absurd has
+with_schedule P each (listed names) has = absurd has
+with_schedule P each (refused refusal) has = absurd has
+
+-- where a situation with every operation is held, or nothing was done
+schedule_known : (reply : ReplyData) (sequences : List (List Op)) (lengths : List ℕ) (old new : List Member) (before after : ℕ) → HasSchedule reply → HasWhole lengths new ⊎ ((new ≡ old) × (after ≡ before)) → IsKnownBy reply sequences lengths old before new after
+schedule_known reply sequences lengths old new before after has held =
+    with_schedule (λ r. IsKnownBy r sequences lengths old before new after) (λ schedule fixed. held) reply has
+
+pub schedule_idle : (reply : ReplyData) (sequences : List (List Op)) (lengths : List ℕ) (members : List Member) (made : ℕ) → HasSchedule reply → IsKnownBy reply sequences lengths members made members made
+schedule_idle reply sequences lengths members made has = schedule_known reply sequences lengths members members made made has (inr (refl, refl))
+
+pub schedule_held : {E : Type 0} (r : Result Reply E) (sequences : List (List Op)) (lengths : List ℕ) (new : List Member) → IfOk r (λ reply. HasSchedule (reply_data reply)) → HasWhole lengths new
+    → IfOk r (λ reply. (old : List Member) (before after : ℕ) → IsKnownBy (reply_data reply) sequences lengths old before new after)
+schedule_held (Ok reply) sequences lengths new has whole = λ old before after. schedule_known (reply_data reply) sequences lengths old new before after has (inl whole)
+schedule_held (Err error) sequences lengths new has whole = tt
+
+-- it is as wanted, whatever that is
+pub schedule_wanted : (explains : Bool) (reply : ReplyData) → HasSchedule reply → IsAsWanted explains reply
+schedule_wanted true reply has = λ is. subst HasSchedule is has
+schedule_wanted false reply has = λ situations is. subst HasSchedule is has
+
+-- what holds of a value holds of it where it is not an error
+pub ok_some : {E : Type 0} (P Q : Reply → Type 0) (r : Result Reply E) (o : Option Reply) → o ≡ result_ok r → ((reply : Reply) → P reply → Q reply) → IfOk r P → IfSome o Q
+ok_some P Q (Ok reply) o is each held = subst (λ x. IfSome x Q) (sym is) (each reply held)
+ok_some P Q (Err error) o is each held = subst (λ x. IfSome x Q) (sym is) tt
 
 -- ---- of the machine
 

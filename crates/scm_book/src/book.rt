@@ -2,10 +2,10 @@
 ghost use Rattle.std.specs.Prelude.{◌≡◌, ◌≢◌, ◌↔◌, ◌+◌, ◌-◌, [], false, map, None, Some, true, is_ok, IsTrue, IfOk, IfSome, IsSomeAnd, MatchResult};
 ghost use Rattle.std.specs.Arc.{arc_value};
 ghost use Rattle.std.specs.Option.{option_map};
-ghost use Rattle.scm_book.specs.Calls.{call_data, reply_data, entry_data, opens, claims, releases, reports, sets_mark, goes_back, raises, asks, asks_why, asks_cycle, shows, lists, closes, refused};
+ghost use Rattle.scm_book.specs.Calls.{call_data, reply_data, entry_data, refused};
 ghost use Rattle.scm_sequences.specs.declared.refusal.Refusal.TheVariants.{BadLine, TooManySessions};
 ghost use Rattle.scm_book.specs.Machine.{empty_machine};
-ghost use Rattle.scm_book.specs.Sets.{HasRoom, HasRoomFor, HoldsFor, LeavesSets, SearchesSet};
+ghost use Rattle.scm_book.specs.Sets.{HasRoom, HasRoomFor, HoldsFor, LeavesSets};
 ghost use Rattle.scm_results.specs.Totals.{capped, none_counted};
 ghost use Rattle.scm_book.specs.Workers.{IsTaking, IsDelivery, OffersNothingNew};
 ghost use Rattle.scm_book.specs.Loans.{IsLending, IsLendingForWork, IsTakingBack};
@@ -13,14 +13,15 @@ ghost use Rattle.scm_book.specs.Plans.{IsKnown, known_in, loan_in};
 ghost use Rattle.scm_book.specs.Changes.{tells_of_change};
 ghost use Rattle.scm_book.specs.Journal.{count_of as count_in, GivesKept, IsCall, IsLegalBook};
 
+mod calls;
+
 use crate::journal::Journal;
 use crate::loan::Loan;
 use crate::traces::Traces;
-use crate::{Call, Decl, Entry, Plan, Reply};
+use crate::{Call, Entry, Plan, Reply};
 use scm_cells::Name;
 use scm_expand::{Outcome, Task};
 use scm_frontier::Steps;
-use scm_lowering::Access;
 use scm_results::Results;
 use scm_sequences::{NoMemory, Refusal};
 use std::alloc::Global;
@@ -31,14 +32,14 @@ use std::sync::Arc;
 ///
 /// Contracts see a record: `machine` is the machine that the book stands for, and `journal` its entries, a legal history
 /// that ends in this machine. Beside the machine stand `sets`, what questions and outcomes found out about each trace, and
-/// `results`, the totals of tasks and outcomes, and `steps`, how many steps questions made. A session is a number that the caller gives.
+/// `results`, the totals of tasks and outcomes, and `steps`, how many steps questions made. A session is a number that the
+/// caller gives.
 ///
 /// Each call answers `Refused(JournalFull)` where the journal is full, before all else; then what the machine answers, or
 /// `Refused(NoMemory)`. After these two refusals machine and journal are as they were, and after the first the sets too;
 /// with any other reply the call and its reply stand last in the journal.
 #[derive(Drop)]
 pub struct Book {
-    alloc: Global,
     traces: Traces,
     journal: Journal,
     results: Results,
@@ -66,7 +67,6 @@ impl Book {
         ensures steps { result.steps ≡ 0 }
     {
         Book {
-            alloc,
             traces: Traces::new(alloc),
             journal: Journal::new(alloc),
             results: Results::new(),
@@ -272,160 +272,6 @@ impl Book {
         };
         self.journal.enter(session, call, entered);
         (reply, kept)
-    }
-
-    /// Opens a trace, which the session owns. Refused `BadDeclaration` where the number of processes isn't 1 to
-    /// `MOST_PROCESSES`, the number of cells isn't 1 to `MOST_CELLS`, two cells have one name or a number doesn't fit its
-    /// cell; then `BadBudget`, `NameTaken`, `TooManyTraces`.
-    pub fn open(
-        &mut self,
-        session: u16,
-        name: Name,
-        procs: u64,
-        budget: u64,
-        cells: &[Decl],
-    ) -> Reply
-        ensures called { IsCall self.old session (opens name procs budget cells.now) (reply_data result) self.new }
-        ensures legal { IsLegalBook self.new }
-    {
-        if self.journal.is_full() {
-            return Reply::Refused(Refusal::JournalFull);
-        }
-        let Ok(cells) = Vec::from_slice(self.alloc, cells) else {
-            return Reply::Refused(Refusal::NoMemory);
-        };
-        self.call(
-            session,
-            Call::OpenTrace {
-                name,
-                procs,
-                budget,
-                cells,
-            },
-        )
-    }
-
-    /// Claims a process for the session. Refused `NoSuchTrace`, `NoSuchProcess`, `ProcessTaken`.
-    pub fn claim(&mut self, session: u16, name: Name, process: u64) -> Reply
-        ensures called { IsCall self.old session (claims name process) (reply_data result) self.new }
-        ensures legal { IsLegalBook self.new }
-    {
-        self.call(session, Call::ClaimProcess { name, process })
-    }
-
-    /// Gives up a process that the session claimed. Refused `NoSuchTrace`, `NoSuchProcess`, `NotClaimed`.
-    pub fn release(&mut self, session: u16, name: Name, process: u64) -> Reply
-        ensures called { IsCall self.old session (releases name process) (reply_data result) self.new }
-        ensures legal { IsLegalBook self.new }
-    {
-        self.call(session, Call::ReleaseProcess { name, process })
-    }
-
-    /// Adds the operation that an access is to the sequence of a process, in amortized constant time. Refused
-    /// `NoSuchTrace`, `NoSuchProcess`, `NotClaimed`, `NoSuchCell`, `WidthMismatch`, `ValueOutOfRange`, `SequenceFull`.
-    pub fn report(&mut self, session: u16, name: Name, process: u64, access: &Access) -> Reply
-        ensures called { IsCall self.old session (reports name process access.now) (reply_data result) self.new }
-        ensures legal { IsLegalBook self.new }
-    {
-        self.call(
-            session,
-            Call::Report {
-                name,
-                process,
-                access: *access,
-            },
-        )
-    }
-
-    /// Marks the present lengths of a trace; the reply is the number of the mark. Refused `NoSuchTrace`, `NotOwner`,
-    /// `TooManyMarks`.
-    pub fn mark(&mut self, session: u16, name: Name) -> Reply
-        ensures called { IsCall self.old session (sets_mark name) (reply_data result) self.new }
-        ensures legal { IsLegalBook self.new }
-    {
-        self.call(session, Call::SetMark { name })
-    }
-
-    /// Cuts every sequence of a trace to a mark and drops the marks after it; claims and budget stay. Refused
-    /// `NoSuchTrace`, `NotOwner`, `NoSuchMark`.
-    pub fn back(&mut self, session: u16, name: Name, mark: u64) -> Reply
-        ensures called { IsCall self.old session (goes_back name mark) (reply_data result) self.new }
-        ensures legal { IsLegalBook self.new }
-    {
-        self.call(session, Call::GoBack { name, mark })
-    }
-
-    /// Raises the budget of a trace; the present number itself is taken. Refused `NoSuchTrace`, `NotOwner`, `BadBudget`.
-    pub fn raise(&mut self, session: u16, name: Name, budget: u64) -> Reply
-        ensures called { IsCall self.old session (raises name budget) (reply_data result) self.new }
-        ensures legal { IsLegalBook self.new }
-    {
-        self.call(session, Call::RaiseBudget { name, budget })
-    }
-
-    /// Whether the trace is sequentially consistent, as it is or as it stood at a mark. Refused `NoSuchTrace`,
-    /// `NoSuchMark`. The counter needs room, as `has_room` says; what it rises by is counted in the book's total too. What
-    /// was found out stays for the next questions, and isn't paid for again: at most two steps more are made than pairs of
-    /// a situation and a process are looked at for the first time, and none where a situation with every operation is held
-    /// or all was looked at, as it is once the same question was refuted.
-    pub fn ask(&mut self, session: u16, name: Name, mark: Option<u64>, steps: &mut Steps) -> Reply
-        requires room { HasRoomFor self.old.machine name steps.old }
-        ensures called { IsCall self.old session (asks name mark) (reply_data result) self.new }
-        ensures work { SearchesSet self.old.machine self.old.sets name mark (reply_data result) steps.old steps.new self.new.sets }
-        ensures counted { self.new.steps ≡ capped (self.old.steps + (steps.new - steps.old)) }
-        ensures legal { IsLegalBook self.new }
-    {
-        let (reply, kept) = self.make(session, Call::Ask { name, mark }, None, false, steps);
-        drop(kept);
-        reply
-    }
-
-    /// The same, with a refutation in place of `Inconsistent`. Refused `NoSuchTrace`, `NoSuchMark`.
-    pub fn why(&mut self, session: u16, name: Name, mark: Option<u64>, steps: &mut Steps) -> Reply
-        requires room { HasRoomFor self.old.machine name steps.old }
-        ensures called { IsCall self.old session (asks_why name mark) (reply_data result) self.new }
-        ensures work { SearchesSet self.old.machine self.old.sets name mark (reply_data result) steps.old steps.new self.new.sets }
-        ensures counted { self.new.steps ≡ capped (self.old.steps + (steps.new - steps.old)) }
-        ensures legal { IsLegalBook self.new }
-    {
-        let (reply, kept) = self.make(session, Call::Why { name, mark }, None, false, steps);
-        drop(kept);
-        reply
-    }
-
-    /// A short refutation of the trace, as it is or as it stood at a mark: orders that every legal schedule would have to
-    /// keep, of which the last puts an operation before itself. `Unknown` where none is found, which says nothing: so it is
-    /// where the trace is consistent. It makes no step and leaves alone what questions found out. Refused `NoSuchTrace`,
-    /// `NoSuchMark`.
-    pub fn cycle(&mut self, session: u16, name: Name, mark: Option<u64>) -> Reply
-        ensures called { IsCall self.old session (asks_cycle name mark) (reply_data result) self.new }
-        ensures legal { IsLegalBook self.new }
-    {
-        self.call(session, Call::Cycle { name, mark })
-    }
-
-    /// The operations of a process, as they are stored. Refused `NoSuchTrace`, `NoSuchProcess`.
-    pub fn show(&mut self, session: u16, name: Name, process: u64) -> Reply
-        ensures called { IsCall self.old session (shows name process) (reply_data result) self.new }
-        ensures legal { IsLegalBook self.new }
-    {
-        self.call(session, Call::ShowOps { name, process })
-    }
-
-    /// The names of the open traces, in the order of their opening.
-    pub fn list(&mut self, session: u16) -> Reply
-        ensures called { IsCall self.old session lists (reply_data result) self.new }
-        ensures legal { IsLegalBook self.new }
-    {
-        self.call(session, Call::ListTraces)
-    }
-
-    /// Closes a trace; the others keep their order. Refused `NoSuchTrace`, `NotOwner`.
-    pub fn close(&mut self, session: u16, name: Name) -> Reply
-        ensures called { IsCall self.old session (closes name) (reply_data result) self.new }
-        ensures legal { IsLegalBook self.new }
-    {
-        self.call(session, Call::CloseTrace { name })
     }
 }
 

@@ -18,7 +18,7 @@ pub(crate) struct KnownSchedules {
     /// lengths that a trace can be asked about lie within one another.
     failed: Option<u64>,
     /// The same, where the whole budget could have been spent on a proposal.
-    failed_whole: Option<u64>,
+    failed_at_full_budget: Option<u64>,
     /// At how many operations neither the schedule nor the order of the reports is legal, which were judged then.
     illegal: Option<u64>,
     /// How often the trace was cut.
@@ -37,7 +37,7 @@ impl KnownSchedules {
             schedule: Vec::new(alloc),
             reported: Some(Vec::new(alloc)),
             failed: None,
-            failed_whole: None,
+            failed_at_full_budget: None,
             illegal: None,
             cuts: 0,
         }
@@ -54,18 +54,19 @@ impl KnownSchedules {
             schedule: Vec::from_slice(alloc, &self.schedule).ok()?,
             reported,
             failed: self.failed,
-            failed_whole: self.failed_whole,
+            failed_at_full_budget: self.failed_at_full_budget,
             illegal: self.illegal,
             cuts: self.cuts,
         })
     }
 
-    pub(crate) fn schedule(&self) -> &[u8] {
+    /// The longest one that was found.
+    pub(crate) fn longest(&self) -> &[u8] {
         &self.schedule
     }
 
     /// The schedule, where it has as many operations as there are within the lengths.
-    pub(crate) fn whole_schedule(&self, lengths: &Lengths) -> Option<&[u8]> {
+    pub(crate) fn complete_schedule(&self, lengths: &Lengths) -> Option<&[u8]> {
         if self.schedule.len() as u64 == operations_in(lengths) {
             Some(&self.schedule)
         } else {
@@ -131,15 +132,15 @@ impl KnownSchedules {
         ensures { self.new.schedule ≡ self.old.schedule }
     {
         let operations = operations_in(lengths);
-        if self.may_try_whole(lengths) {
-            self.failed_whole = Some(operations);
+        if self.may_spend_budget(lengths) {
+            self.failed_at_full_budget = Some(operations);
         }
         self.failed = Some(operations);
     }
 
     /// Whether all of the budget may be spent on a proposal though the set is full.
-    pub(crate) fn may_try_whole(&self, lengths: &Lengths) -> bool {
-        match self.failed_whole {
+    pub(crate) fn may_spend_budget(&self, lengths: &Lengths) -> bool {
+        match self.failed_at_full_budget {
             Some(before) => operations_in(lengths)
                 > before.saturating_add(before / GROWTH_TO_RETRY),
             None => true,
@@ -173,7 +174,7 @@ impl KnownSchedules {
         }
         self.cuts = self.cuts.saturating_add(1);
         self.failed = None;
-        self.failed_whole = None;
+        self.failed_at_full_budget = None;
         self.illegal = None;
     }
 
@@ -190,7 +191,7 @@ impl KnownSchedules {
         }
         if is_unchanged {
             self.failed = other.failed;
-            self.failed_whole = other.failed_whole;
+            self.failed_at_full_budget = other.failed_at_full_budget;
         }
     }
 
@@ -199,7 +200,7 @@ impl KnownSchedules {
         ensures { self.new.schedule ≡ self.old.schedule }
     {
         self.failed = None;
-        self.failed_whole = None;
+        self.failed_at_full_budget = None;
     }
 }
 

@@ -15,7 +15,6 @@ mod asking;
 mod lending;
 mod loan_state;
 mod planning;
-mod refuting;
 mod working;
 
 use crate::declarations::declare_cells;
@@ -47,7 +46,7 @@ pub(crate) struct OpenTrace {
     // What questions and outcomes found out stays for the next questions.
     reach: Reach,
     // So do the last schedule, which is no longer than the trace, and the order of the reports, for their proposals.
-    earlier: KnownSchedules,
+    schedules: KnownSchedules,
     // How far the order of the reports was found to be a schedule when the trace was looked at for work last.
     followed: Option<Beginning>,
     // What workers have to know of it.
@@ -64,7 +63,7 @@ impl Model for OpenTrace {
 
     ghost view = { λ t. record { state = record { owner = t.owner; budget = t.budget; cells = t.cells; sequences = t.sequences; claimants = t.claimants.items; marks = t.marks }; set = t.reach } };
 
-    ghost invariant = { λ t. IsSoundTrace (record { owner = t.owner; budget = t.budget; cells = t.cells; sequences = t.sequences; claimants = t.claimants.items; marks = t.marks }) × IsKeptFor (record { owner = t.owner; budget = t.budget; cells = t.cells; sequences = t.sequences; claimants = t.claimants.items; marks = t.marks }) t.reach × (length t.earlier.schedule.items ≤ sum (lengths_of t.sequences)) };
+    ghost invariant = { λ t. IsSoundTrace (record { owner = t.owner; budget = t.budget; cells = t.cells; sequences = t.sequences; claimants = t.claimants.items; marks = t.marks }) × IsKeptFor (record { owner = t.owner; budget = t.budget; cells = t.cells; sequences = t.sequences; claimants = t.claimants.items; marks = t.marks }) t.reach × (length t.schedules.schedule.items ≤ sum (lengths_of t.sequences)) };
 }
 
 impl OpenTrace {
@@ -115,7 +114,7 @@ impl OpenTrace {
             claimants,
             marks: Marks::new(alloc),
             reach,
-            earlier: KnownSchedules::new(alloc),
+            schedules: KnownSchedules::new(alloc),
             followed: None,
             loan_state: LoanState::new(),
         })
@@ -168,7 +167,7 @@ impl OpenTrace {
         let op = lower(&self.cells, access)?;
         self.sequences.push(process, op)?;
         self.reach.grown(process);
-        self.earlier.report(process);
+        self.schedules.report(process);
         self.loan_state.change();
         Ok(())
     }
@@ -221,7 +220,7 @@ impl OpenTrace {
         let lengths = self.marks.get(mark)?;
         self.reach.cut(&self.sequences, lengths);
         self.sequences.cut(lengths);
-        self.earlier.cut(lengths);
+        self.schedules.cut(lengths);
         self.followed = None;
         self.loan_state.change();
         self.marks.back(mark);
@@ -237,7 +236,7 @@ impl OpenTrace {
     {
         self.check_owner(session)?;
         self.budget.raise(budget)?;
-        self.earlier.retry();
+        self.schedules.retry();
         self.loan_state.retry();
         Ok(())
     }

@@ -28,7 +28,7 @@ pub(crate) struct Proposing<'a> {
     pub(crate) lengths: &'a Lengths,
     /// How many situations may be kept.
     pub(crate) limit: usize,
-    pub(crate) earlier: &'a KnownSchedules,
+    pub(crate) schedules: &'a KnownSchedules,
     /// For what they are proposed.
     pub(crate) purpose: Purpose,
 }
@@ -68,14 +68,14 @@ impl Proposing<'_> {
 
     /// What the heuristic proposes.
     fn proposed(&self, reach: &Reach) -> Option<Vec<u8>> {
-        let earlier = self.earlier.schedule();
+        let longest = self.schedules.longest();
         let room = self.room(reach);
         propose(
             self.alloc,
             reach.initials(),
             self.sequences,
             self.lengths,
-            earlier,
+            longest,
             self.limit,
             room,
         )
@@ -85,7 +85,7 @@ impl Proposing<'_> {
     /// where the set is full, if that wasn't tried of late.
     fn room(&self, reach: &Reach) -> usize {
         let room = self.limit.saturating_sub(reach.held());
-        let is_due = room == 0 && self.earlier.may_try_whole(self.lengths);
+        let is_due = room == 0 && self.schedules.may_spend_budget(self.lengths);
         if is_due || matches!(self.purpose, Purpose::Work) {
             self.limit
         } else {
@@ -120,12 +120,12 @@ impl Proposing<'_> {
         requires { CanJudge self.now.sequences.now self.now.lengths.now reach.now.initials }
         ensures { IfSome result (λ schedule. IsSchedule (cut_to (trace_of reach.now.initials self.now.sequences.now) self.now.lengths.now) (reverse schedule.now)) }
     {
-        if self.earlier.are_illegal(self.lengths) {
+        if self.schedules.are_illegal(self.lengths) {
             return None;
         }
-        match self.judged(reach, self.earlier.whole_schedule(self.lengths)) {
+        match self.judged(reach, self.schedules.complete_schedule(self.lengths)) {
             Some(schedule) => Some(schedule),
-            None => self.judged(reach, self.earlier.reported(self.lengths)),
+            None => self.judged(reach, self.schedules.reported(self.lengths)),
         }
     }
 
@@ -138,7 +138,7 @@ impl Proposing<'_> {
         if let Some(schedule) = self.known(reach) {
             return copy_of_schedule(self.alloc, schedule).ok();
         }
-        if self.earlier.has_failed(self.lengths) || self.is_settled(reach) {
+        if self.schedules.has_failed(self.lengths) || self.is_settled(reach) {
             return None;
         }
         if self.is_search_short(reach)? {

@@ -7,7 +7,7 @@ use Rattle.scm_lowering.specs.declared.access.Access.{Access}
 use Rattle.scm_lowering.specs.laws.AccessLaws.{access_eq-Decides}
 use Rattle.scm_cells.specs.Names.{name_eq}
 use Rattle.scm_cells.specs.laws.NameLaws.{name_eq-Decides}
-use Rattle.scm_frontier.specs.Comparisons.{situated_eq-Decides, option_eq-Decides}
+use Rattle.scm_frontier.specs.laws.ComparisonLaws.{situated_eq-Decides, option_eq-Decides}
 use Rattle.scm_orders.specs.laws.DerivationLaws.{derivation_eq-Decides}
 use Rattle.scm_book.specs.declared.call.Decl.{Decl}
 use Rattle.scm_book.specs.declared.call.Call.{Call}

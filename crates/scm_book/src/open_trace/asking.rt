@@ -6,10 +6,11 @@ ghost use Rattle.scm_book.specs.Calls.{reply_data, answer_data};
 ghost use Rattle.scm_book.specs.Refusals.{question_cause};
 ghost use Rattle.scm_book.specs.Sets.{most_steps, SearchesAt};
 ghost use Rattle.scm_book.specs.Sound.{IsKeptFor};
-ghost use Rattle.scm_book.specs.Steps.{Asks, AsksWhy};
+ghost use Rattle.scm_book.specs.Steps.{Asks, AsksCycle, AsksWhy};
 
 use super::OpenTrace;
 use crate::Reply;
+use crate::cycle::refuted_shortly;
 use crate::question::Question;
 use scm_frontier::Steps;
 use scm_marks::Marks;
@@ -86,11 +87,21 @@ impl OpenTrace {
             lengths,
             limit: self.budget.limit(),
             explains,
-            earlier: &self.earlier,
+            schedules: &self.schedules,
         };
         let reply = question.answer(&mut self.reach, steps)?;
-        self.earlier.learn(&reply, lengths);
+        self.schedules.learn(&reply, lengths);
         Ok(reply)
+    }
+
+    /// A short refutation of the trace, as it is or as it stood at a mark, or `Unknown`. Refused `NoSuchMark`.
+    pub(crate) fn cycle(&self, alloc: Global, mark: Option<u64>) -> Result<Reply, Refusal>
+        ensures ok { IfOk result (λ reply. (question_cause self.now.state mark ≡ None) × AsksCycle self.now.state mark (reply_data reply)) }
+        ensures err { IfErr result (Refuses (question_cause self.now.state mark)) }
+    {
+        let present = self.sequences.lengths();
+        let lengths = lengths_at(&self.marks, &present, mark)?;
+        Ok(refuted_shortly(alloc, &self.cells, &self.sequences, lengths))
     }
 
     /// The most steps that a question takes.

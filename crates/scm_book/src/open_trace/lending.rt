@@ -40,7 +40,7 @@ impl OpenTrace {
         if !self.is_wanted(alloc, &lengths, purpose) {
             return None;
         }
-        let earlier = self.earlier.copy()?;
+        let schedules = self.schedules.copy()?;
         let Ok(sequences) = copy_of_sequences(alloc, &self.sequences) else {
             return None;
         };
@@ -55,7 +55,7 @@ impl OpenTrace {
             lengths,
             limit: self.budget.limit(),
             reach: mem::replace(&mut self.reach, start),
-            earlier,
+            schedules,
             purpose,
             is_unfinished: true,
         })
@@ -81,7 +81,7 @@ impl OpenTrace {
             sequences: &self.sequences,
             lengths,
             limit: self.budget.limit(),
-            earlier: &self.earlier,
+            schedules: &self.schedules,
             purpose,
         };
         match purpose {
@@ -128,7 +128,7 @@ impl OpenTrace {
             Some(followed) => followed,
             None => Beginning::new(alloc, self.reach.initials(), lengths.procs())?,
         };
-        let places = self.earlier.reported(&lengths)?;
+        let places = self.schedules.reported(&lengths)?;
         followed.follow(&self.sequences, &lengths, places.get(followed.made()..)?);
         let left = followed.left(&lengths);
         self.followed = Some(followed);
@@ -148,13 +148,13 @@ impl OpenTrace {
             lengths,
             limit,
             mut reach,
-            mut earlier,
+            mut schedules,
             purpose: _,
             is_unfinished,
         } = loan;
         self.loan_state.take_back(is_unfinished);
-        self.take_found(&sequences, limit, &mut reach, &mut earlier);
-        drop(earlier);
+        self.take_found(&sequences, limit, &mut reach, &mut schedules);
+        drop(schedules);
         drop(reach);
         drop(lengths);
         drop(sequences);
@@ -166,7 +166,7 @@ impl OpenTrace {
         sequences: &Sequences,
         limit: usize,
         reach: &mut Reach,
-        earlier: &mut KnownSchedules,
+        schedules: &mut KnownSchedules,
     )
         requires { IsKept (trace_of reach.old.initials sequences.now) reach.old.members }
         ensures state { self.new.state ≡ self.old.state }
@@ -177,8 +177,8 @@ impl OpenTrace {
         }
         let begins = reach.carry_over(sequences, &self.sequences);
         let is_same = begins && limit == self.budget.limit();
-        self.earlier
-            .take_back(earlier, &self.sequences.lengths(), is_same);
+        self.schedules
+            .take_back(schedules, &self.sequences.lengths(), is_same);
         if self.is_more(reach) {
             mem::swap(&mut self.reach, reach);
         }

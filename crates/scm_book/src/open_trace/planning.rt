@@ -42,10 +42,10 @@ impl OpenTrace {
             lengths,
             limit: self.budget.limit(),
             explains: false,
-            earlier: &self.earlier,
+            schedules: &self.schedules,
         };
         let known = question.known(&self.reach)?;
-        self.earlier.learn_known(known.as_ref(), lengths);
+        self.schedules.learn_known(known.as_ref(), lengths);
         Ok(known)
     }
 

@@ -29,6 +29,6 @@ invariant_of-self c =
     let is : asked_lengths state c.args.mark ≡ Ok c.in_ok-lengths.lengths.now = asked state c.args.mark c.lengths-present.result (Ok c.in_ok-lengths.lengths.now) c.lengths-present.ensures c.in_ok-lengths.ensures in (
       c.self.invariant.0,
       c.self.invariant.1,
-      sum-kept (length c.self.inside.earlier.schedule.items) (length c.learn_known.new.self.schedule.items) (sum (lengths_of c.self.inside.sequences)) c.in_ok-lengths.lengths.now (lengths_of c.self.inside.sequences) c.self.invariant.2 c.learn_known.ensures
+      sum-kept (length c.self.inside.schedules.schedule.items) (length c.learn_known.new.self.schedule.items) (sum (lengths_of c.self.inside.sequences)) c.in_ok-lengths.lengths.now (lengths_of c.self.inside.sequences) c.self.invariant.2 c.learn_known.ensures
           (IsWithin-asked state c.args.mark c.in_ok-lengths.lengths.now c.self.invariant.0 is) refl,
     )

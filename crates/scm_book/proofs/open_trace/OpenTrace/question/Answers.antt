@@ -31,6 +31,6 @@ invariant_of-self-2 c =
     let is : asked_lengths state c.args.mark ≡ Ok c.in_ok-lengths.lengths.now = asked state c.args.mark c.lengths-present.result (Ok c.in_ok-lengths.lengths.now) c.lengths-present.ensures c.in_ok-lengths.ensures in (
       c.self.invariant.0,
       search rules,
-      sum-kept (length c.self.inside.earlier.schedule.items) (length c.learn.new.self.schedule.items) (sum (lengths_of c.self.inside.sequences)) c.in_ok-lengths.lengths.now (lengths_of c.self.inside.sequences) c.self.invariant.2 c.learn.ensures
+      sum-kept (length c.self.inside.schedules.schedule.items) (length c.learn.new.self.schedule.items) (sum (lengths_of c.self.inside.sequences)) c.in_ok-lengths.lengths.now (lengths_of c.self.inside.sequences) c.self.invariant.2 c.learn.ensures
           (IsWithin-asked state c.args.mark c.in_ok-lengths.lengths.now c.self.invariant.0 is) refl,
     )
