@@ -1,13 +1,10 @@
 -- What a call adds to what its pass knows.
-use Rattle.std.proofs.Common.{◌≡◌, ℕ, ◌+◌, ◌-◌, List, [], ◌∷◌, ◌++◌, length, map, get_or, refl, sym, ap, ◌∙◌, subst, arith, length-append}
-use Rattle.std.proofs.lemmas.List.{map-append, length-map}
-use Rattle.std.proofs.Math.ListN.{get_or-map}
-use Rattle.std.proofs.Math.Seq.{get_or-append_seam}
+use Rattle.std.proofs.Common.{◌≡◌, ℕ, ◌+◌, List, [], ◌∷◌, ◌++◌, length, map, refl, sym, ap, ◌∙◌, subst, arith, length-append}
+use Rattle.std.proofs.lemmas.List.{map-append}
 use Rattle.std.specs.Arc.{arc_value}
-use Rattle.scm_book.specs.declared.entry.Entry.{Entry}
-use Rattle.scm_book.specs.Calls.{CallData, ReplyData, EntryData, KeptCall, kept_data, call_data, reply_data, entry_data}
+use Rattle.scm_book.specs.Calls.{CallData, ReplyData, EntryData, KeptCall, kept_data, call_data, reply_data}
 use Rattle.scm_book.specs.Machine.{Machine}
-use Rattle.scm_book.specs.Journal.{entered, IsLegalHistory}
+use Rattle.scm_book.specs.Journal.{count_of, entered, IsLegalHistory}
 use Rattle.scm_book.specs.Callers.{calls_by}
 use Rattle.scm_book.specs.laws.CallerLaws.{calls_by-entry_own}
 use Rattle.scm_shared.specs.Passes.{Known, known, Extended}
@@ -42,15 +39,9 @@ pub kept_more : (old pushed : List KeptCall) (one : KeptCall) (call : CallData) 
 kept_more old pushed one call reply made is was called replied =
     ap (map kept_data) is ∙ map-append kept_data old (one ∷ []) ∙ (λ i. was i ++ (called i, replied i) ∷ [])
 
--- the entry that stands last in the journal is the new one
-pub committed : (entries : List Entry) (entry : Entry) (place : ℕ) (other : Entry) (log now : List EntryData) (last : EntryData)
-    → map entry_data entries ≡ now → now ≡ log ++ last ∷ [] → place ≡ length entries - 1 → entry ≡ get_or entries place other → log ++ entry_data entry ∷ [] ≡ now
-committed entries entry place other log now last are is end at =
-    let len : length entries ≡ length log + 1 = sym (length-map entries entry_data) ∙ ap length (are ∙ is) ∙ length-append log (last ∷ []) in
-    let here : place ≡ length log = omega (arith, end, len) in
-    let same : entry_data entry ≡ last =
-    ap entry_data at ∙ sym (get_or-map entry_data entries place other)
-    ∙ ap (λ (l : List EntryData). get_or l place (entry_data other)) (are ∙ is)
-    ∙ ap (λ (n : ℕ). get_or (log ++ last ∷ []) n (entry_data other)) here
-    ∙ get_or-append_seam log last [] (entry_data other) in
-    ap (λ (e : EntryData). log ++ e ∷ []) same ∙ sym is
+-- a pass that has seen the journal with its last entry has seen all
+pub seen_all : (log own entries now seen : List EntryData) (number : ℕ) (call : CallData) (reply : ReplyData) → entries ≡ now → now ≡ entered log number call reply → own ≡ log
+    → ((last : EntryData) → entries ≡ own ++ last ∷ [] → seen ≡ entries) → seen ≡ now
+seen_all log own entries now seen number call reply are is whole told =
+    let last : EntryData = record { session = number; number = count_of number log; call = call; reply = reply } in
+    told last (are ∙ is ∙ ap (λ (l : List EntryData). l ++ last ∷ []) (sym whole)) ∙ are

@@ -1,4 +1,4 @@
--- The rule of the counting word. Beside the lock stands a word, the length of the history. Each seat of its table knows
+-- The rule of the length word. Beside the lock stands a word, the length of the history. Each seat of its table knows
 -- something: the book's seat the whole history, the seat of a pass what the pass has seen.
 use Rattle.std.specs.Prelude.{ℕ, ◌≡◌, ◌<◌, ◌≤◌, ⊤, List, [], ◌∷◌, length, Bool, true, false, ◌==◌, count_by}
 use Rattle.std.specs.List.{sum_by}

@@ -1,4 +1,4 @@
--- The steps of the counting word: how each changes what a seat knows, and what it tells.
+-- The steps of the length word: how each changes what a seat knows, and what it tells.
 use Rattle.std.specs.Prelude.{ℕ, ◌≡◌, ◌+◌, List, [], ◌∷◌, ◌++◌, length}
 use mathlib.Core.Option.{Option, some, none}
 use Rattle.atomic_table.specs.Table.{Me, Step}

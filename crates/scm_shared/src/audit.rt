@@ -2,7 +2,7 @@
 ghost use Rattle.std.specs.Prelude.{◌≡◌, ◌+◌, ◌<◌, ◌≤◌, ◌==◌, ◌↔◌, true, All, IsTrue, length, map, sum_by, vec_len};
 ghost use Rattle.std.specs.List.{list_all, list_any};
 ghost use Rattle.scm_sequences.specs.declared.limits.TheConstants.{MOST_SESSIONS};
-ghost use Rattle.scm_results.specs.declared.limits.TheConstants.{MOST_TALLIES};
+ghost use Rattle.scm_results.specs.declared.naming.TheConstants.{MOST_TALLIES};
 ghost use Rattle.scm_results.specs.Tallies.{AddUpTo};
 ghost use Rattle.scm_book.specs.Calls.{entry_data};
 ghost use Rattle.scm_book.specs.Journal.{IsLegalBook};
@@ -140,8 +140,8 @@ fn take_in<B: BookNaming>(
 }
 
 impl<B: BookNaming> Locked<B> {
-    /// Takes apart what the lock holds, and compares the passes with the journal and the tallies with the totals. That the calls of every
-    /// pass are its session's entries is proved, by the rule of the counting word, and looked at all the same.
+    /// Takes apart what the lock holds, and compares the passes with the journal and the tallies with the totals. That the
+    /// calls of every pass are its session's entries is proved, by the rule of the length word, and looked at all the same.
     pub(crate) fn audit(
         self,
         length_word: &LengthWord<B>,

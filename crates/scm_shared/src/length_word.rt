@@ -1,7 +1,7 @@
-//! The counting word beside the lock, and all that is done with it.
-ghost use Rattle.std.specs.Prelude.{◌≡◌, ◌+◌, ◌<◌, ◌≤◌, ◌⊎◌, [], ◌∷◌, ◌++◌, length};
+//! The length word beside the lock, and all that is done with it.
+ghost use Rattle.std.specs.Prelude.{◌≡◌, ◌+◌, ◌<◌, ◌≤◌, ◌⊎◌, [], ◌∷◌, ◌++◌, length, map};
 ghost use mathlib.Core.List.{IsPrefix};
-ghost use Rattle.scm_book.specs.Calls.{entry_data};
+ghost use Rattle.scm_book.specs.Calls.{EntryData, entry_data};
 ghost use Rattle.scm_shared.specs.Passes.{newcomer, at_front};
 ghost use Rattle.scm_shared.specs.Rule.{holder, Fits};
 ghost use Rattle.scm_shared.specs.Steps.{both, staying, parted, caught_up, called};
@@ -46,7 +46,7 @@ impl<B: BookNaming> LengthWord<B> {
     }
 
     /// The word counts an entry of the pass, whose length of the journal is `count`. The pass has seen all then.
-    pub(crate) fn commit(
+    fn commit(
         &self,
         seat: &mut Seat<Entry, View>,
         badge: &mut Badge<View>,
@@ -66,6 +66,27 @@ impl<B: BookNaming> LengthWord<B> {
             .shared
             .compare_exchange_with::<Commits>(seat, 0, count - 1, count, entry);
         *badge = self.part(seat);
+    }
+
+    /// The word counts the entry of the pass that stands last in the journal. The pass has seen all then. Gives how many there
+    /// are.
+    pub(crate) fn commit_last(
+        &self,
+        seat: &mut Seat<Entry, View>,
+        badge: &mut Badge<View>,
+        entries: &[Entry],
+    ) -> u64
+        requires seat { (seat.old.table_id ≡ B.table) × IsBooks seat.old.me }
+        requires badge { (badge.old.table_id ≡ B.table) × HasPass badge.old.views }
+        requires last { (last : EntryData) × (map entry_data entries.now ≡ seat.old.me.0.log ++ last ∷ []) × (last.session ≡ (known_in badge.old.views).number) }
+        ensures count { result ≡ length entries.now }
+        ensures seat { (seat.new.table_id ≡ B.table) × IsKeeper seat.new.me (map entry_data entries.now) seat.old.me.0.entered }
+        ensures badge { (badge.new.table_id ≡ B.table) × ((last : EntryData) → map entry_data entries.now ≡ seat.old.me.0.log ++ last ∷ [] → IsPassOf badge.new.views (called last (map entry_data entries.now) (known_in badge.old.views))) }
+        ensures fits { Fits seat.old.me.0.log (known_in badge.old.views) }
+    {
+        let count = entries.len();
+        self.commit(seat, badge, &entries[count - 1], count as u64);
+        count as u64
     }
 
     /// The pass sees the whole history.

@@ -3,7 +3,7 @@ ghost use Rattle.std.specs.Prelude.{◌≡◌, ◌≢◌, ◌+◌, ◌<◌, ◌�
 ghost use Rattle.std.specs.Option.{option_map};
 ghost use Rattle.scm_sequences.specs.declared.refusal.Refusal.TheVariants.{BadLine, JournalFull, NoMemory as WithoutMemory, TooManySessions};
 ghost use Rattle.scm_sequences.specs.declared.limits.TheConstants.{MOST_SESSIONS};
-ghost use Rattle.scm_results.specs.declared.limits.TheConstants.{MOST_TALLIES};
+ghost use Rattle.scm_results.specs.declared.naming.TheConstants.{MOST_TALLIES};
 ghost use Rattle.scm_results.specs.Tallies.{nothing, nothing_counted};
 ghost use Rattle.scm_book.specs.Calls.{call_data, reply_data, refused};
 ghost use Rattle.scm_book.specs.Journal.{makes_entry, IsUnchanged};
@@ -27,24 +27,26 @@ use std::marker::{Model, PhantomData};
 use std::sync::ledger;
 use std::sync::ledger::{Blank, Share};
 
-/// A question that the book lent, with its set. It can't be let go: only the lock's value of this book takes it apart, to take it back.
+/// A question that the book lent, with its set. It has no `Drop`, so it can't be lost: only the lock's value of this book takes
+/// it apart, to take it back.
 pub(crate) struct BookLoan<B: BookNaming> {
-    question: Loan,
+    lent: Loan,
     of: PhantomData<B>,
 }
 
 impl<B: BookNaming> BookLoan<B> {
-    fn new(question: Loan) -> BookLoan<B>
-        ensures { result.question ≡ question }
+    fn new(lent: Loan) -> BookLoan<B>
+        ensures { result.lent ≡ lent }
     {
         BookLoan {
-            question,
+            lent,
             of: PhantomData,
         }
     }
 
-    pub(crate) fn question(&mut self) -> &mut Loan {
-        &mut self.question
+    /// What was lent.
+    pub(crate) fn lent(&mut self) -> &mut Loan {
+        &mut self.lent
     }
 }
 
@@ -155,19 +157,15 @@ impl<B: BookNaming> Locked<B> {
         ensures unchanged { makes_entry (reply_data result) ≡ false → IsUnchanged self.old.book self.new.book }
     {
         if pass.kept.reserve(1).is_err() {
-            drop(known);
-            drop(call);
             return Reply::Refused(Refusal::NoMemory);
         }
         let (reply, kept) = self.book.call_kept(pass.number, call, known);
         match kept {
             Some(kept) => {
                 let entries = self.book.entries();
-                let count = entries.len();
-                let entry = &entries[count - 1];
-                length_word.commit(&mut self.seat, &mut pass.badge, entry, count as u64);
+                let front = length_word.commit_last(&mut self.seat, &mut pass.badge, entries);
                 self.made.add(&mut pass.share, 1);
-                pass.front = count as u64;
+                pass.front = front;
                 pass.kept.push_reserved(kept);
             }
             None => {
@@ -194,14 +192,14 @@ impl<B: BookNaming> Locked<B> {
         ensures good { IfOk result (λ reply. reply_data reply ≢ refused BadLine) }
         ensures sessions { IfOk result (λ reply. reply_data reply ≢ refused TooManySessions) }
         ensures called { IfOk result (λ reply. IsLockedCall self.old.book pass.old.number (call_data call) (reply_data reply) self.new.book) }
-        ensures lent { IfErr result (λ lent. (call_data lent.0 ≡ call_data call) × IsLending self.old.book (call_data call) (option_map (λ loan. loan.question) lent.1) self.new.book) }
+        ensures lent { IfErr result (λ lent. (call_data lent.0 ≡ call_data call) × IsLending self.old.book (call_data call) (option_map (λ loan. loan.lent) lent.1) self.new.book) }
         ensures pass { IfErr result (λ _. pass.new ≡ pass.old) }
         ensures counts { KeepsCounts self.old self.new }
     {
         match self.book.plan(&call) {
             Plan::Ready(known) => Ok(self.call(length_word, pass, call, known)),
             Plan::Waits => Err((call, None)),
-            Plan::Long(question) => Err((call, Some(BookLoan::new(question)))),
+            Plan::Long(lent) => Err((call, Some(BookLoan::new(lent)))),
         }
     }
 
@@ -218,7 +216,7 @@ impl<B: BookNaming> Locked<B> {
         ensures refused { reply_data result ≡ refused WithoutMemory → pass.new ≡ pass.old }
         ensures good { reply_data result ≢ refused BadLine }
         ensures sessions { reply_data result ≢ refused TooManySessions }
-        ensures book { IsSearchedCall self.old.book loan.question pass.old.number (call_data call) (reply_data result) self.new.book }
+        ensures book { IsSearchedCall self.old.book loan.lent pass.old.number (call_data call) (reply_data result) self.new.book }
         ensures counts { KeepsCounts self.old self.new }
     {
         self.take_back(loan);
@@ -227,20 +225,20 @@ impl<B: BookNaming> Locked<B> {
 
     /// The set of a trace, lent for work.
     pub(crate) fn lend_work(&mut self) -> Option<BookLoan<B>>
-        ensures book { IsLendingForWork self.old.book (option_map (λ loan. loan.question) result) self.new.book }
+        ensures book { IsLendingForWork self.old.book (option_map (λ loan. loan.lent) result) self.new.book }
         ensures counts { KeepsCounts self.old self.new }
     {
-        let question = self.book.lend_work()?;
-        Some(BookLoan::new(question))
+        let lent = self.book.lend_work()?;
+        Some(BookLoan::new(lent))
     }
 
     /// Takes back what was lent.
     pub(crate) fn take_back(&mut self, loan: BookLoan<B>)
-        ensures book { IsTakingBack self.old.book loan.question self.new.book }
+        ensures book { IsTakingBack self.old.book loan.lent self.new.book }
         ensures counts { KeepsCounts self.old self.new }
     {
-        let BookLoan { question, of: _ } = loan;
-        self.book.take_back(question);
+        let BookLoan { lent, of: _ } = loan;
+        self.book.take_back(lent);
     }
 
     /// Takes at most `n` tasks, and counts them.

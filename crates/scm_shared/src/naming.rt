@@ -4,7 +4,7 @@ use scm_results::Naming;
 use std::marker::{Brand, PhantomData};
 use std::sync::ledger::Ledger;
 
-/// The name of one shared book: the table of its counting word, and the ledger of the calls that its passes made. The call
+/// The name of one shared book: the table of its length word, and the ledger of the calls that its passes made. The call
 /// that makes the book picks it, with `Brand`, from the book's token.
 pub trait BookNaming: Naming {
     ghost use Rattle.std.specs.Prelude.{ℕ};

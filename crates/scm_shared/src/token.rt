@@ -11,7 +11,7 @@ use scm_sequences::{MOST_SESSIONS, NoMemory};
 use std::alloc::Global;
 use std::sync::ledger::Blank;
 
-/// A counting word with the seat of its book, and new ledgers, which no book has yet. It is made before the book, so that the
+/// A length word with the seat of its book, and new ledgers, which no book has yet. It is made before the book, so that the
 /// call that makes the book can pick the book's name from it.
 #[derive(Drop)]
 pub struct BookToken {

@@ -1,4 +1,4 @@
-//! The rule of the counting word, and its kinds of step.
+//! The rule of the length word, and its kinds of step.
 
 use atomic_table::{Join, Play, Split, TableRule};
 use scm_book::Entry;
