@@ -39,7 +39,7 @@ fn cut(line: &[u8]) -> Option<&[u8]>
         return None;
     }
     match line {
-        [front @ .., b'\r'] => Some(front),
+        [text @ .., b'\r'] => Some(text),
         whole => Some(whole),
     }
 }

@@ -9,11 +9,11 @@ use Rattle.clap.specs.declared.builder.value_parser.ValueParser.TheVariants.{Uns
 use Rattle.scm_cells.specs.Numbers.{count_of_word}
 use Rattle.scm_monitor.specs.declared.settings.Options.{Options}
 use Rattle.scm_monitor.specs.declared.settings.TheConstants.{DEFAULT_WORKERS, MOST_WORKERS}
-use Rattle.scm_monitor.specs.declared.switches.Asked.{Asked}
+use Rattle.scm_monitor.specs.declared.switches.Switches.{Switches}
 
 -- ---- which words are taken, and what they ask for
 
-abbrev pub nothing_asked : Asked
+abbrev pub nothing_asked : Switches
 nothing_asked = record { workers = None; each = false; check = false; journal = false }
 
 -- the number of workers that a word says
@@ -21,11 +21,11 @@ abbrev pub workers_of_word : List ℕ → Option ℕ
 workers_of_word word = option_and_then (λ n. if nat_le n MOST_WORKERS then Some n else None) (count_of_word word)
 
 -- so many workers too, where their number wasn't asked for before
-abbrev pub with_workers : Asked → ℕ → Option Asked
+abbrev pub with_workers : Switches → ℕ → Option Switches
 with_workers asked n = if is_some asked.workers then None else Some (record asked { workers = Some n })
 
 -- what a word alone asks for too, where it wasn't there before
-abbrev pub with_flag : Asked → List ℕ → Option Asked
+abbrev pub with_flag : Switches → List ℕ → Option Switches
 with_flag asked word =
     if bytes_eq word (codes "--each") && not asked.each then Some (record asked { each = true })
     else (if bytes_eq word (codes "--check") && not asked.check then Some (record asked { check = true })
@@ -33,7 +33,7 @@ with_flag asked word =
     else None))
 
 -- what the words ask for after others; `--` may stand last
-abbrev pub asked_by_words : Asked → List (List ℕ) → Option Asked
+abbrev pub asked_by_words : Switches → List (List ℕ) → Option Switches
 asked_by_words asked [] = Some asked
 asked_by_words asked (word ∷ []) = if bytes_eq word (codes "--") then Some asked else with_flag asked word
 asked_by_words asked (word ∷ next ∷ words) =
@@ -41,7 +41,7 @@ asked_by_words asked (word ∷ next ∷ words) =
     option_and_then (λ n. option_and_then (λ more. asked_by_words more words) (with_workers asked n)) (workers_of_word next)
     else option_and_then (λ more. asked_by_words more (next ∷ words)) (with_flag asked word)
 
-abbrev pub asked_for : Asked → Options
+abbrev pub asked_for : Switches → Options
 asked_for asked = record {
   workers = unwrap_or asked.workers DEFAULT_WORKERS;
   each = asked.each;

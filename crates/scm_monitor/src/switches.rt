@@ -10,7 +10,7 @@ use scm_cells::read_count;
 
 /// What words ask for, each at most once.
 #[derive(Clone, Copy, Debug, PartialEq, Eq)]
-pub struct Asked {
+pub struct Switches {
     workers: Option<u8>,
     each: bool,
     check: bool,
@@ -36,12 +36,12 @@ fn read_workers(word: &str) -> Option<u8>
     Some(count as u8)
 }
 
-impl Asked {
+impl Switches {
     /// Nothing was asked for.
-    fn nothing() -> Asked
+    fn nothing() -> Switches
         ensures { result ≡ nothing_asked }
     {
-        Asked {
+        Switches {
             workers: None,
             each: false,
             check: false,
@@ -50,7 +50,7 @@ impl Asked {
     }
 
     /// So many workers too; `None` where their number was asked for before.
-    fn with_workers(self, workers: u8) -> Option<Asked>
+    fn with_workers(self, workers: u8) -> Option<Switches>
         requires { workers ≤ MOST_WORKERS }
         ensures with { result ≡ with_workers self workers }
         ensures few { IfSome result (λ asked. IfSome asked.workers (λ n. n ≤ MOST_WORKERS)) }
@@ -58,28 +58,28 @@ impl Asked {
         if self.workers.is_some() {
             return None;
         }
-        Some(Asked {
+        Some(Switches {
             workers: Some(workers),
             ..self
         })
     }
 
     /// What this word asks for too; `None` where it asks for nothing, or was there before.
-    fn with_flag(self, word: &str) -> Option<Asked>
+    fn with_flag(self, word: &str) -> Option<Switches>
         ensures with { result ≡ with_flag self word.now }
         ensures kept { IfSome result (λ asked. asked.workers ≡ self.workers) }
     {
         if is_word(word, "--each") && !self.each {
-            return Some(Asked { each: true, ..self });
+            return Some(Switches { each: true, ..self });
         }
         if is_word(word, "--check") && !self.check {
-            return Some(Asked {
+            return Some(Switches {
                 check: true,
                 ..self
             });
         }
         if is_word(word, "--journal") && !self.journal {
-            return Some(Asked {
+            return Some(Switches {
                 journal: true,
                 ..self
             });
@@ -88,7 +88,7 @@ impl Asked {
     }
 
     /// What this word asks for too where it stands last, which `--` may.
-    fn with_last(self, word: &str) -> Option<Asked>
+    fn with_last(self, word: &str) -> Option<Switches>
         ensures with { result ≡ asked_by_words self (word.now ∷ []) }
         ensures kept { IfSome result (λ asked. asked.workers ≡ self.workers) }
     {
@@ -112,11 +112,11 @@ impl Asked {
 }
 
 /// What the words ask for, where each of them is taken.
-fn read_asked(words: &[&str]) -> Option<Asked>
+fn read_switches(words: &[&str]) -> Option<Switches>
     ensures read { result ≡ asked_by_words nothing_asked (texts words.entry.now) }
     ensures few { IfSome result (λ asked. IfSome asked.workers (λ n. n ≤ MOST_WORKERS)) }
 {
-    let mut asked = Asked::nothing();
+    let mut asked = Switches::nothing();
     let mut rest = words;
     'each: loop {
         match rest {
@@ -139,5 +139,5 @@ pub fn read_options(words: &[&str]) -> Option<Options>
     ensures read { result ≡ options_of (texts words.entry.now) }
     ensures workers { IfSome result (λ options. options.workers ≤ MOST_WORKERS) }
 {
-    Some(read_asked(words)?.options())
+    Some(read_switches(words)?.options())
 }

@@ -170,7 +170,7 @@ impl LineReader {
             return None;
         }
         match self.line.as_slice() {
-            [front @ .., b'\r'] => Some(front),
+            [text @ .., b'\r'] => Some(text),
             line => Some(line),
         }
     }

@@ -1,6 +1,6 @@
 use Rattle.std.proofs.Common.{rules, ◌∙◌}
 use Rattle.scm_monitor.proofs.Reading.{one_on, two_on}
-use Rattle.scm_monitor.proofs.switches.read_asked.Goals as goal
+use Rattle.scm_monitor.proofs.switches.read_switches.Goals as goal
 
 -- src/switches.rt
 pub each-preserved-then-is_word : goal.each-preserved-then-is_word
