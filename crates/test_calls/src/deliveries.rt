@@ -1,8 +1,8 @@
 //! What workers take and deliver, between the calls of a session.
 
 use crate::expand::expanded;
-use crate::lending::steps_to_ask;
-use crate::words::{ANNA, call_of, name, play, played, says};
+use crate::lending::{add_call, steps_to_ask};
+use crate::words::{ANNA, name, play, played};
 use scm_book::{Book, Event, Reply, run_events};
 use scm_expand::{Outcome, Task};
 use scm_frontier::Steps;
@@ -222,14 +222,6 @@ fn mixed_events(rt: &impl Abort, alloc: Global, outcome: Outcome) -> Vec<Event> 
     add_delivery(rt, alloc, &mut events, outcome);
     add_call(rt, alloc, &mut events, "close t");
     events
-}
-
-pub(crate) fn add_call(rt: &impl Abort, alloc: Global, events: &mut Vec<Event>, line: &str) {
-    let call = call_of(rt, alloc, line);
-    let session = ANNA;
-    events
-        .push(Event::CallBy { session, call })
-        .expect(rt, "memory");
 }
 
 fn add_delivery(rt: &impl Abort, alloc: Global, events: &mut Vec<Event>, outcome: Outcome) {

@@ -1,6 +1,5 @@
 //! Questions that are lent by a book, and what is taken back after whatever happened meanwhile.
 
-use crate::deliveries::add_call;
 use crate::words::{ANNA, call_of, name, play, played, says};
 use crate::work::awaits;
 use scm_book::{Book, Event, Loan, Plan, Reply, run_events};
@@ -57,6 +56,15 @@ fn searched(rt: &impl Abort, alloc: Global, book: &mut Book) -> Loan {
 pub(crate) fn assert_held(rt: &impl Abort, book: &Book, count: usize) {
     let held = book.held(&name(rt, b"t"));
     assert!(rt; held == Some(count));
+}
+
+/// Adds the call to the events.
+pub(crate) fn add_call(rt: &impl Abort, alloc: Global, events: &mut Vec<Event>, line: &str) {
+    let call = call_of(rt, alloc, line);
+    let session = ANNA;
+    events
+        .push(Event::CallBy { session, call })
+        .expect(rt, "memory");
 }
 
 /// By how many steps t gets this answer under the book.

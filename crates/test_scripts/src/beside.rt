@@ -45,7 +45,7 @@ pub(crate) fn is_agreed(audit: &Audit, workers: usize) -> bool {
 }
 
 /// Runs a script beside so many workers.
-fn run_of<T: Threads + Wait + Sync>(
+fn run_beside<T: Threads + Wait + Sync>(
     rt: &T,
     alloc: Global,
     script: &[u8],
@@ -101,7 +101,7 @@ fn expect_ran(rt: &impl Abort, ran: &Ran, ended: Result<bool, RunFault>, written
 fn replies_go_out_beside_workers(rt: HostRuntime) -> Result<(), Fail> {
     for workers in 0..5 {
         for (script, replies) in [(MESSAGE, REPLIES), (ALL_KINDS, ALL_REPLIES)] {
-            let ran = run_of(&rt, rt.alloc(), script.as_bytes(), Limits::none(7), workers)?;
+            let ran = run_beside(&rt, rt.alloc(), script.as_bytes(), Limits::none(7), workers)?;
             expect_ran(&rt, &ran, Ok(true), replies.as_bytes());
         }
     }
@@ -116,7 +116,7 @@ fn a_read_fault_ends_the_workers(rt: HostRuntime) -> Result<(), Fail> {
             read,
             ..Limits::none(8)
         };
-        let ran = run_of(&rt, rt.alloc(), script, limits, 2)?;
+        let ran = run_beside(&rt, rt.alloc(), script, limits, 2)?;
         let (front, _) = script.split_at_checked(read).ok_or("a place")?;
         let wanted = replies_to(front, REPLIES.as_bytes());
         expect_ran(&rt, &ran, Err(RunFault::ReadFailed), wanted);
@@ -132,7 +132,7 @@ fn a_write_fault_ends_the_workers(rt: HostRuntime) -> Result<(), Fail> {
             write,
             ..Limits::none(8)
         };
-        let ran = run_of(&rt, rt.alloc(), MESSAGE.as_bytes(), limits, 2)?;
+        let ran = run_beside(&rt, rt.alloc(), MESSAGE.as_bytes(), limits, 2)?;
         let (front, _) = replies.split_at_checked(write).ok_or("a place")?;
         expect_ran(&rt, &ran, Err(RunFault::WriteFailed), front);
     }

@@ -10,7 +10,7 @@ use std::test::Fail;
 use std::thread::Threads;
 
 /// How a script with a thread for each session ended beside so many workers, and what was written.
-pub(crate) fn run_of<T: Threads + Wait + Sync>(
+pub(crate) fn run_in_groups<T: Threads + Wait + Sync>(
     rt: &T,
     alloc: Global,
     script: &[u8],

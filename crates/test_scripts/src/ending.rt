@@ -77,7 +77,7 @@ impl Read for HeldReader<'_> {
 }
 
 /// How the script ended beside so many workers, one of which is held until it has, and what was written.
-fn run_of<T: Threads + Wait + Sync>(
+fn run_held<T: Threads + Wait + Sync>(
     rt: &T,
     alloc: Global,
     barrier: &Barrier,
@@ -118,7 +118,7 @@ fn assert_ended(rt: &impl Abort, ended: &Ended, barrier: &Barrier, workers: usiz
 fn outcomes_that_come_after_the_end_are_delivered(rt: HostRuntime) -> Result<(), Fail> {
     for workers in 0..5 {
         let barrier = Barrier::new();
-        let (ended, written) = run_of(&rt, rt.alloc(), &barrier, workers)?;
+        let (ended, written) = run_held(&rt, rt.alloc(), &barrier, workers)?;
         assert!(rt; written.as_slice() == REPLIES.as_bytes());
         assert_ended(&rt, &ended?, &barrier, workers);
     }

@@ -22,7 +22,13 @@ struct Ran {
 }
 
 /// Runs a script with reads and writes of at most `step` bytes, up to these limits.
-fn run_of(alloc: Global, script: &[u8], step: usize, read_limit: usize, write_limit: usize) -> Ran {
+fn run_alone(
+    alloc: Global,
+    script: &[u8],
+    step: usize,
+    read_limit: usize,
+    write_limit: usize,
+) -> Ran {
     let wire = Wire::new();
     let mut reader = Port::new(StepReader {
         script,
@@ -70,7 +76,7 @@ fn replies_are_written_before_more_is_read(rt: HostRuntime) {
     let table = [(MESSAGE, REPLIES), (ALL_KINDS, ALL_REPLIES)];
     for (script, replies) in table {
         for step in [1, 3, 4096] {
-            let ran = run_of(rt.alloc(), script.as_bytes(), step, usize::MAX, usize::MAX);
+            let ran = run_alone(rt.alloc(), script.as_bytes(), step, usize::MAX, usize::MAX);
             expect_ran(&rt, &ran, None, replies.as_bytes());
         }
     }
@@ -84,7 +90,7 @@ fn many_reads(rt: HostRuntime) -> Result<(), Fail> {
         script.extend_from_slice(b"A\n")?;
         replies.extend_from_slice(b"? refused 1 bad-line\n")?;
     }
-    let ran = run_of(rt.alloc(), &script, 2, usize::MAX, usize::MAX);
+    let ran = run_alone(rt.alloc(), &script, 2, usize::MAX, usize::MAX);
     expect_ran(&rt, &ran, None, &replies);
     Ok(())
 }
@@ -94,7 +100,7 @@ fn a_read_fault_ends_the_run(rt: HostRuntime) {
     let script = MESSAGE.as_bytes();
     for step in [1, 3, 4096] {
         for limit in 0..=script.len() {
-            let ran = run_of(rt.alloc(), script, step, limit, usize::MAX);
+            let ran = run_alone(rt.alloc(), script, step, limit, usize::MAX);
             let wanted = replies_to(&script[..limit], REPLIES.as_bytes());
             expect_ran(&rt, &ran, Some(RunFault::ReadFailed), wanted);
         }
@@ -106,7 +112,7 @@ fn a_write_fault_ends_the_run(rt: HostRuntime) {
     let replies = REPLIES.as_bytes();
     for step in [1, 3, 4096] {
         for limit in 0..=replies.len() {
-            let ran = run_of(rt.alloc(), MESSAGE.as_bytes(), step, usize::MAX, limit);
+            let ran = run_alone(rt.alloc(), MESSAGE.as_bytes(), step, usize::MAX, limit);
             expect_ran(&rt, &ran, Some(RunFault::WriteFailed), &replies[..limit]);
         }
     }
@@ -120,7 +126,7 @@ fn some_lines_are_bad_and_some_ask_for_nothing(rt: HostRuntime) -> Result<(), Fa
         script.push(b'#')?;
     }
     script.extend_from_slice(b"\nb ask")?;
-    let ran = run_of(rt.alloc(), &script, 100, usize::MAX, usize::MAX);
+    let ran = run_alone(rt.alloc(), &script, 100, usize::MAX, usize::MAX);
     let wanted =
         b"? refused 1 bad-line\na refused 1 bad-line\n? refused 1 bad-line\nb refused 1 bad-line\n";
     assert!(rt; ran.fault.is_none() && ran.written.as_slice() == wanted.as_slice());

@@ -268,7 +268,7 @@ fn storm_in_groups<T: Threads + Wait + Abort + Sync>(
     alloc: Global,
     script: &str,
 ) -> Result<(), Fail> {
-    let (ended, written) = each::run_of(rt, alloc, script.as_bytes(), WORKERS)?;
+    let (ended, written) = each::run_in_groups(rt, alloc, script.as_bytes(), WORKERS)?;
     let calls = script.lines().count();
     assert!(rt; in_order(written.as_slice()) == Some(calls));
     check_audit(rt, alloc, &ended?.audit, calls)

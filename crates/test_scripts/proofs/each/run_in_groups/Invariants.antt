@@ -1,4 +1,4 @@
-use Rattle.test_scripts.proofs.each.run_of.Given as goal
+use Rattle.test_scripts.proofs.each.run_in_groups.Given as goal
 
 abbrev pub ghosts-run_each-B-BookNaming : goal.ghosts-run_each-B-BookNaming
 ghosts-run_each-B-BookNaming g a = record { table = a.token.table.shared.table_id; made = a.token.made.name; seats = a.token.made.parts }
