@@ -2,7 +2,6 @@
 ghost use Rattle.std.specs.Prelude.{◌≡◌};
 
 use crate::shared_workers::{accounted, assert_answer, buffered};
-use crate::waiting::{is_set, rises_to};
 use scm_book::Book;
 use scm_expand::{FreeGate, Gate, Outcome, Task, TaskSource, Work, run_workers};
 use scm_results::Tally;
@@ -16,6 +15,7 @@ use std::sync::atomic::{AtomicBool, AtomicU64, Ordering};
 use std::test::Fail;
 use std::thread;
 use std::thread::Threads;
+use test_fixtures::{is_set, rises_to};
 
 /// A shared book whose collector is held in each delivery until it is let go.
 #[derive(Drop)]

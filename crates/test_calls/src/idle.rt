@@ -1,7 +1,6 @@
 //! That workers with nothing to do wait.
 ghost use Rattle.std.specs.Prelude.{◌≡◌};
 
-use crate::waiting::MOST_TURNS;
 use scm_expand::{Bell, FreeGate, Outcome, Task, TaskSource, run_workers};
 use scm_results::{Naming, Tally, Token, Totals};
 use scm_sequences::NoMemory;
@@ -13,6 +12,7 @@ use std::sync::{Mutex, Wait};
 use std::test::Fail;
 use std::thread;
 use std::thread::Threads;
+use test_fixtures::MOST_TURNS;
 
 /// A source that has no tasks, and counts how often workers look for some and wait.
 #[derive(Drop)]

@@ -30,8 +30,6 @@ mod shared_workers;
 #[cfg(test)]
 mod tallies;
 #[cfg(test)]
-mod waiting;
-#[cfg(test)]
 mod words;
 #[cfg(test)]
 mod work;

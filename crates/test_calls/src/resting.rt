@@ -3,8 +3,7 @@ ghost use Rattle.std.specs.Prelude.{◌≡◌};
 
 use crate::lending::assert_held;
 use crate::shared::entered;
-use crate::shared_workers::{Barrier, accounted, play};
-use crate::waiting::is_set;
+use crate::shared_workers::{Barrier, accounted, play_shared};
 use scm_book::Book;
 use scm_expand::{FreeGate, TaskSource, run_workers};
 use scm_results::Tally;
@@ -19,6 +18,7 @@ use std::test::Fail;
 use std::thread;
 use std::thread::Threads;
 use std::time::Duration;
+use test_fixtures::is_set;
 
 const WORKERS: usize = 2;
 
@@ -58,8 +58,8 @@ fn call_meanwhile<B: BookNaming, R: Wait + Abort>(
     barrier: &Barrier,
 ) {
     assert!(rt; is_set(&barrier.came));
-    play(rt, alloc, shared, pass, STORES);
-    play(
+    play_shared(rt, alloc, shared, pass, STORES);
+    play_shared(
         rt,
         alloc,
         shared,
@@ -82,10 +82,10 @@ fn hold<B: BookNaming + Send + Sync, R: Threads + Wait + Abort + Sync>(
     let barrier = Barrier::new();
     let shared = SharedBook::<B>::new(alloc, token);
     let mut pass = entered(rt, &shared);
-    play(rt, alloc, &shared, &mut pass, EMPTY);
-    play(rt, alloc, &shared, &mut pass, FORBIDDEN);
+    play_shared(rt, alloc, &shared, &mut pass, EMPTY);
+    play_shared(rt, alloc, &shared, &mut pass, FORBIDDEN);
     for _ in 0..TIMES {
-        play(rt, alloc, &shared, &mut pass, STORES);
+        play_shared(rt, alloc, &shared, &mut pass, STORES);
     }
     let (_, tallies) = thread::join(
         rt,
@@ -127,11 +127,11 @@ fn rest_and_ask<B: BookNaming, R: Wait + Abort>(
 ) {
     for times in [TIMES, 1] {
         for _ in 0..times {
-            play(rt, alloc, shared, pass, STORES);
+            play_shared(rt, alloc, shared, pass, STORES);
         }
         assert!(rt; is_worked_off(rt, shared));
     }
-    play(rt, alloc, shared, pass, "ask t => inconsistent");
+    play_shared(rt, alloc, shared, pass, "ask t => inconsistent");
 }
 
 /// Workers begin once the stores were reported so often, and where they were, a question about them was searched.
@@ -147,12 +147,12 @@ fn rest<B: BookNaming + Send + Sync, R: Threads + Wait + Abort + Sync>(
 {
     let shared = SharedBook::<B>::new(alloc, token);
     let mut pass = entered(rt, &shared);
-    play(rt, alloc, &shared, &mut pass, FORBIDDEN);
+    play_shared(rt, alloc, &shared, &mut pass, FORBIDDEN);
     for _ in 0..before {
-        play(rt, alloc, &shared, &mut pass, STORES);
+        play_shared(rt, alloc, &shared, &mut pass, STORES);
     }
     if before > 0 {
-        play(rt, alloc, &shared, &mut pass, "ask t => inconsistent");
+        play_shared(rt, alloc, &shared, &mut pass, "ask t => inconsistent");
     }
     let (_, tallies) = thread::join(
         rt,

@@ -3,7 +3,6 @@ ghost use Rattle.std.specs.Prelude.{◌≡◌};
 
 use crate::expand::expanded;
 use crate::shared::entered;
-use crate::waiting::{MOST_TURNS, is_set};
 use crate::words::{call_of, says};
 use scm_book::Book;
 use scm_expand::{FreeGate, Gate, Outcome, TaskSource, run_workers};
@@ -17,6 +16,7 @@ use std::sync::atomic::{AtomicBool, Ordering};
 use std::test::Fail;
 use std::thread;
 use std::thread::Threads;
+use test_fixtures::{MOST_TURNS, is_set};
 
 /// Opens t with the cells x and y, and claims its two processes.
 const OPEN: &str = "open t 2 100 x y; claim t 0; claim t 1";
@@ -25,7 +25,7 @@ const OPEN: &str = "open t 2 100 x y; claim t 0; claim t 1";
 const STORE_BUFFERING: &str = "do t 0 sw x 1; do t 0 lw y 0; do t 1 sw y 1; do t 1 lw x 0";
 
 /// Makes the calls of a text, each of which is answered what stands behind its arrow, or `ok`.
-pub(crate) fn play<B: BookNaming, R: Wait + Abort>(
+pub(crate) fn play_shared<B: BookNaming, R: Wait + Abort>(
     rt: &R,
     alloc: Global,
     shared: &SharedBook<B>,
@@ -64,8 +64,8 @@ pub(crate) fn buffered<B: BookNaming, R: Wait + Abort>(
     shared: &SharedBook<B>,
 ) -> Pass<B> {
     let mut pass = entered(rt, shared);
-    play(rt, alloc, shared, &mut pass, OPEN);
-    play(rt, alloc, shared, &mut pass, STORE_BUFFERING);
+    play_shared(rt, alloc, shared, &mut pass, OPEN);
+    play_shared(rt, alloc, shared, &mut pass, STORE_BUFFERING);
     pass
 }
 
@@ -104,11 +104,11 @@ fn searched<B: BookNaming, R: Wait + Abort>(
     shared: &SharedBook<B>,
 ) -> Pass<B> {
     let mut pass = entered(rt, shared);
-    play(rt, alloc, shared, &mut pass, OPEN);
+    play_shared(rt, alloc, shared, &mut pass, OPEN);
     for _ in 0..90 {
-        play(rt, alloc, shared, &mut pass, "do t 0 sw x 1");
+        play_shared(rt, alloc, shared, &mut pass, "do t 0 sw x 1");
     }
-    play(
+    play_shared(
         rt,
         alloc,
         shared,
@@ -196,7 +196,7 @@ fn call_while_held<B: BookNaming, R: Wait + Abort>(
     barrier: &Barrier,
 ) {
     assert!(rt; is_set(&barrier.came));
-    play(
+    play_shared(
         rt,
         alloc,
         shared,
@@ -305,7 +305,7 @@ fn deliver_late<B: BookNaming, R: Wait + Abort>(rt: &R, alloc: Global, token: Bo
     let before = shared.wait(rt, 0);
     shared.deliver(rt, outcomes, &mut tally);
     let after = shared.wait(rt, 0);
-    play(rt, alloc, &shared, &mut pass, "close t");
+    play_shared(rt, alloc, &shared, &mut pass, "close t");
     let closed = shared.wait(rt, 0);
     shared.deliver(rt, again, &mut tally);
     assert!(rt; tally.delivered() == 4);

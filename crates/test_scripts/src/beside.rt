@@ -1,43 +1,16 @@
 //! Scripts run over a shared book, beside workers.
 
-use crate::fakes::{StepReader, StepWriter, Wire};
+use crate::fakes::Wire;
+use crate::ran::{Limits, Ran, expect_ran};
 use crate::scripts::{ALL_KINDS, ALL_REPLIES, MESSAGE, REPLIES, replies_to};
 use scm_expand::FreeGate;
 use scm_sessions::{Findings, Port, RunFault, run_with_workers};
 use scm_shared::{Audit, BookToken};
 use std::alloc::Global;
 use std::marker::Brand;
-use std::process::Abort;
 use std::sync::Wait;
 use std::test::Fail;
 use std::thread::Threads;
-
-/// How a script ran: whether its audit agreed, or its fault; what was written, and whether a reply came late.
-#[derive(Drop)]
-struct Ran {
-    ended: Result<bool, RunFault>,
-    written: Vec<u8>,
-    is_late: bool,
-}
-
-/// How many bytes a reader gives and a writer takes at once, and after how many they fail.
-#[derive(Clone, Copy)]
-struct Limits {
-    step: usize,
-    read: usize,
-    write: usize,
-}
-
-impl Limits {
-    /// No end that fails.
-    fn none(step: usize) -> Limits {
-        Limits {
-            step,
-            read: usize::MAX,
-            write: usize::MAX,
-        }
-    }
-}
 
 /// Whether the audit agrees, with a tally of each worker and of the collector.
 pub(crate) fn is_agreed(audit: &Audit, workers: usize) -> bool {
@@ -53,18 +26,8 @@ fn run_beside<T: Threads + Wait + Sync>(
     workers: usize,
 ) -> Result<Ran, Fail> {
     let wire = Wire::new();
-    let mut reader = Port::new(StepReader {
-        script,
-        step: limits.step,
-        limit: limits.read,
-        wire: &wire,
-    });
-    let mut writer = Port::new(StepWriter {
-        taken: Vec::new(alloc),
-        step: limits.step,
-        limit: limits.write,
-        wire: &wire,
-    });
+    let mut reader = Port::new(limits.reader(script, &wire));
+    let mut writer = Port::new(limits.writer(alloc, &wire));
     let token = BookToken::new(alloc)?;
     let ended = run_with_workers::<Brand, _, _, FreeGate, T>(
         rt,
@@ -79,22 +42,9 @@ fn run_beside<T: Threads + Wait + Sync>(
     Ok(Ran {
         ended: ended.map(|ended| is_agreed(&ended.audit, workers)),
         written: writer.into_inner().taken,
+        flushed: wire.replies_flushed.get(),
         is_late: wire.is_late.get(),
     })
-}
-
-/// Stops the test where a run didn't end so, or another text was written, or a reply came late.
-fn expect_ran(rt: &impl Abort, ran: &Ran, ended: Result<bool, RunFault>, written: &[u8]) {
-    assert!(rt;
-        ran.ended == ended && !ran.is_late,
-        "written are {} bytes",
-        ran.written.len()
-    );
-    assert!(rt;
-        ran.written.as_slice() == written,
-        "wanted are {} bytes",
-        written.len()
-    );
 }
 
 #[test]

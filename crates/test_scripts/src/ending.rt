@@ -1,7 +1,6 @@
 //! The end of a script while workers expand, whose outcomes come after it.
 
 use crate::beside::is_agreed;
-use crate::waiting::{is_set, rises_to};
 use scm_expand::Gate;
 use scm_sessions::{Ended, Findings, Port, RunFault, run_with_workers};
 use scm_shared::BookToken;
@@ -14,6 +13,7 @@ use std::sync::atomic::{AtomicBool, AtomicU64, Ordering};
 use std::test::Fail;
 use std::thread::Threads;
 use std::{io, thread};
+use test_fixtures::{is_set, rises_to};
 
 /// Store buffering, and a report behind the question, which leaves tasks for workers.
 const SCRIPT: &str = "a open t 2 100 x:w=0 y:w=0\n\

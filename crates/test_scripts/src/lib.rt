@@ -15,6 +15,8 @@ mod journals;
 #[cfg(test)]
 mod ports;
 #[cfg(test)]
+mod ran;
+#[cfg(test)]
 mod replays;
 #[cfg(test)]
 mod reply_texts;
@@ -28,5 +30,3 @@ mod storm;
 mod storm_lines;
 #[cfg(test)]
 mod tasks;
-#[cfg(test)]
-mod waiting;

@@ -1,5 +1,6 @@
 //! What is written for a short refutation, with numbers that no short script has.
-use crate::fakes::{StepWriter, Wire};
+use crate::fakes::Wire;
+use crate::ran::Limits;
 use scm_book::Reply;
 use scm_orders::{Derivation, Fact, Line, Place, Rule};
 use scm_sequences::NoMemory;
@@ -10,12 +11,7 @@ use std::test::Fail;
 /// What is written for a reply under no name.
 fn line_of(alloc: Global, reply: &Reply) -> Result<Vec<u8>, RunFault> {
     let wire = Wire::new();
-    let mut port = Port::new(StepWriter {
-        taken: Vec::new(alloc),
-        step: 2,
-        limit: usize::MAX,
-        wire: &wire,
-    });
+    let mut port = Port::new(Limits::none(2).writer(alloc, &wire));
     write_reply(&mut port, None, reply)?;
     Ok(port.into_inner().taken)
 }
@@ -38,47 +34,60 @@ fn cycle_of_one(alloc: Global, fact: Fact, rule: Rule, hints: &[u32]) -> Result<
     Ok(Reply::Cycle(Derivation { lines, hints: all }))
 }
 
+const FROM: Place = Place { process: 0, at: 3 };
+
+const TO: Place = Place {
+    process: 31,
+    at: 1_000_000,
+};
+
+const BEFORE: Fact = Fact::Before { from: FROM, to: TO };
+
+/// A fact, its rule, and the words for both.
+const LINES: [(Fact, Rule, &str); 9] = [
+    (BEFORE, Rule::Joined, "0.3<31.1000000:joined"),
+    (BEFORE, Rule::AfterAll, "0.3<31.1000000:after-all"),
+    (BEFORE, Rule::BeforeAll, "0.3<31.1000000:before-all"),
+    (BEFORE, Rule::AfterSource, "0.3<31.1000000:after-source"),
+    (
+        Fact::Sees {
+            write: FROM,
+            read: TO,
+        },
+        Rule::Source,
+        "0.3~31.1000000:source",
+    ),
+    (
+        Fact::SeesFirst { read: TO },
+        Rule::Source,
+        "-~31.1000000:source",
+    ),
+    (
+        Fact::Hidden {
+            write: FROM,
+            read: TO,
+        },
+        Rule::Hidden { by: TO },
+        "0.3/31.1000000:hidden:31.1000000",
+    ),
+    (
+        Fact::Unseen {
+            write: FROM,
+            read: TO,
+        },
+        Rule::Assumed,
+        "0.3!31.1000000:assumed",
+    ),
+    (
+        Fact::UnseenFirst { read: TO },
+        Rule::Lemma { end: 4_294_967_295 },
+        "-!31.1000000:lemma:4294967295",
+    ),
+];
+
 #[test]
 fn short_refutations_have_their_text(rt: HostRuntime) -> Result<(), Fail> {
-    let from = Place { process: 0, at: 3 };
-    let to = Place {
-        process: 31,
-        at: 1_000_000,
-    };
-    let (write, read) = (from, to);
-    let before = Fact::Before { from, to };
-    let table = [
-        (before, Rule::Joined, "0.3<31.1000000:joined"),
-        (before, Rule::AfterAll, "0.3<31.1000000:after-all"),
-        (before, Rule::BeforeAll, "0.3<31.1000000:before-all"),
-        (before, Rule::AfterSource, "0.3<31.1000000:after-source"),
-        (
-            Fact::Sees { write, read },
-            Rule::Source,
-            "0.3~31.1000000:source",
-        ),
-        (
-            Fact::SeesFirst { read },
-            Rule::Source,
-            "-~31.1000000:source",
-        ),
-        (
-            Fact::Hidden { write, read },
-            Rule::Hidden { by: to },
-            "0.3/31.1000000:hidden:31.1000000",
-        ),
-        (
-            Fact::Unseen { write, read },
-            Rule::Assumed,
-            "0.3!31.1000000:assumed",
-        ),
-        (
-            Fact::UnseenFirst { read },
-            Rule::Lemma { end: 4_294_967_295 },
-            "-!31.1000000:lemma:4294967295",
-        ),
-    ];
-    for (fact, rule, word) in table {
+    for (fact, rule, word) in LINES {
         for (hints, more) in [
             (&[][..], ""),
             (&[4, 17, 4_294_967_295][..], ":4:17:4294967295"),

@@ -1,47 +1,22 @@
 //! Runs of scripts over readers and writers that give and take little, and fail.
 
-use crate::fakes::{StepReader, StepWriter, Wire};
+use crate::fakes::Wire;
+use crate::ran::{Limits, Ran, expect_ran};
 use crate::scripts::{ALL_KINDS, ALL_REPLIES, MESSAGE, REPLIES, replies_to};
 use scm_book::Book;
 use scm_sequences::LONGEST_LINE;
 use scm_sessions::{Findings, Port, RunFault, run_script};
 use std::alloc::Global;
-use std::process::Abort;
 use std::test::Fail;
 
 /// How many lines `many_reads` gives, more than two 16-bit counts can hold.
 const MANY: usize = 140_000;
 
-/// How a script ran: its fault, what was written, how many replies of it were flushed, and whether a reply came late.
-#[derive(Drop)]
-struct Ran {
-    fault: Option<RunFault>,
-    written: Vec<u8>,
-    flushed: usize,
-    is_late: bool,
-}
-
-/// Runs a script with reads and writes of at most `step` bytes, up to these limits.
-fn run_alone(
-    alloc: Global,
-    script: &[u8],
-    step: usize,
-    read_limit: usize,
-    write_limit: usize,
-) -> Ran {
+/// Runs a script on one thread.
+fn run_alone(alloc: Global, script: &[u8], limits: Limits) -> Ran {
     let wire = Wire::new();
-    let mut reader = Port::new(StepReader {
-        script,
-        step,
-        limit: read_limit,
-        wire: &wire,
-    });
-    let mut writer = Port::new(StepWriter {
-        taken: Vec::new(alloc),
-        step,
-        limit: write_limit,
-        wire: &wire,
-    });
+    let mut reader = Port::new(limits.reader(script, &wire));
+    let mut writer = Port::new(limits.writer(alloc, &wire));
     let ended = run_script(
         alloc,
         Book::new(alloc),
@@ -50,25 +25,11 @@ fn run_alone(
         &mut Findings::new(),
     );
     Ran {
-        fault: ended.err(),
+        ended: ended.map(|_| true),
         written: writer.into_inner().taken,
         flushed: wire.replies_flushed.get(),
         is_late: wire.is_late.get(),
     }
-}
-
-/// Stops the test where a run didn't end so, or another text was written, or a reply came late.
-fn expect_ran(rt: &impl Abort, ran: &Ran, fault: Option<RunFault>, written: &[u8]) {
-    assert!(rt;
-        ran.fault == fault && !ran.is_late,
-        "written are {} bytes",
-        ran.written.len()
-    );
-    assert!(rt;
-        ran.written.as_slice() == written,
-        "wanted are {} bytes",
-        written.len()
-    );
 }
 
 #[test]
@@ -76,8 +37,8 @@ fn replies_are_written_before_more_is_read(rt: HostRuntime) {
     let table = [(MESSAGE, REPLIES), (ALL_KINDS, ALL_REPLIES)];
     for (script, replies) in table {
         for step in [1, 3, 4096] {
-            let ran = run_alone(rt.alloc(), script.as_bytes(), step, usize::MAX, usize::MAX);
-            expect_ran(&rt, &ran, None, replies.as_bytes());
+            let ran = run_alone(rt.alloc(), script.as_bytes(), Limits::none(step));
+            expect_ran(&rt, &ran, Ok(true), replies.as_bytes());
         }
     }
 }
@@ -90,8 +51,8 @@ fn many_reads(rt: HostRuntime) -> Result<(), Fail> {
         script.extend_from_slice(b"A\n")?;
         replies.extend_from_slice(b"? refused 1 bad-line\n")?;
     }
-    let ran = run_alone(rt.alloc(), &script, 2, usize::MAX, usize::MAX);
-    expect_ran(&rt, &ran, None, &replies);
+    let ran = run_alone(rt.alloc(), &script, Limits::none(2));
+    expect_ran(&rt, &ran, Ok(true), &replies);
     Ok(())
 }
 
@@ -100,9 +61,13 @@ fn a_read_fault_ends_the_run(rt: HostRuntime) {
     let script = MESSAGE.as_bytes();
     for step in [1, 3, 4096] {
         for limit in 0..=script.len() {
-            let ran = run_alone(rt.alloc(), script, step, limit, usize::MAX);
+            let limits = Limits {
+                read: limit,
+                ..Limits::none(step)
+            };
+            let ran = run_alone(rt.alloc(), script, limits);
             let wanted = replies_to(&script[..limit], REPLIES.as_bytes());
-            expect_ran(&rt, &ran, Some(RunFault::ReadFailed), wanted);
+            expect_ran(&rt, &ran, Err(RunFault::ReadFailed), wanted);
         }
     }
 }
@@ -112,8 +77,12 @@ fn a_write_fault_ends_the_run(rt: HostRuntime) {
     let replies = REPLIES.as_bytes();
     for step in [1, 3, 4096] {
         for limit in 0..=replies.len() {
-            let ran = run_alone(rt.alloc(), MESSAGE.as_bytes(), step, usize::MAX, limit);
-            expect_ran(&rt, &ran, Some(RunFault::WriteFailed), &replies[..limit]);
+            let limits = Limits {
+                write: limit,
+                ..Limits::none(step)
+            };
+            let ran = run_alone(rt.alloc(), MESSAGE.as_bytes(), limits);
+            expect_ran(&rt, &ran, Err(RunFault::WriteFailed), &replies[..limit]);
         }
     }
 }
@@ -126,10 +95,10 @@ fn some_lines_are_bad_and_some_ask_for_nothing(rt: HostRuntime) -> Result<(), Fa
         script.push(b'#')?;
     }
     script.extend_from_slice(b"\nb ask")?;
-    let ran = run_alone(rt.alloc(), &script, 100, usize::MAX, usize::MAX);
+    let ran = run_alone(rt.alloc(), &script, Limits::none(100));
     let wanted =
         b"? refused 1 bad-line\na refused 1 bad-line\n? refused 1 bad-line\nb refused 1 bad-line\n";
-    assert!(rt; ran.fault.is_none() && ran.written.as_slice() == wanted.as_slice());
+    assert!(rt; ran.ended == Ok(true) && ran.written.as_slice() == wanted.as_slice());
     // the last line has no line feed
     assert_eq!(rt; ran.flushed, 4);
     Ok(())

@@ -4,7 +4,6 @@ ghost use Rattle.std.specs.Prelude.{◌≡◌};
 use crate::each;
 use crate::replays::replays;
 use crate::storm_lines::{CALLERS, Caller, TURNS};
-use crate::waiting::rises_to;
 use scm_book::Reply;
 use scm_expand::{Gate, run_workers};
 use scm_sessions::read_line;
@@ -18,6 +17,7 @@ use std::test::Fail;
 use std::thread::Threads;
 use std::time::{Clock, Duration, Instant};
 use std::{io, thread};
+use test_fixtures::rises_to;
 
 const WORKERS: usize = 4;
 

@@ -1,13 +1,14 @@
-//! How a test waits for what other threads do.
+//! What tests of threads share: how they wait for what other threads do.
+#![tactic(auto)]
 
 use std::sync::atomic::{AtomicBool, AtomicU64, Ordering};
 use std::thread;
 
 /// So often a thread yields to others at most.
-pub(crate) const MOST_TURNS: u64 = 100_000_000;
+pub const MOST_TURNS: u64 = 100_000_000;
 
 /// Whether it is set in the end.
-pub(crate) fn is_set(flag: &AtomicBool) -> bool {
+pub fn is_set(flag: &AtomicBool) -> bool {
     for _ in 0..MOST_TURNS {
         if flag.load(Ordering::SeqCst) {
             return true;
@@ -18,7 +19,7 @@ pub(crate) fn is_set(flag: &AtomicBool) -> bool {
 }
 
 /// Whether the number rises to `least`.
-pub(crate) fn rises_to(number: &AtomicU64, least: u64) -> bool {
+pub fn rises_to(number: &AtomicU64, least: u64) -> bool {
     for _ in 0..MOST_TURNS {
         if number.load(Ordering::SeqCst) >= least {
             return true;
