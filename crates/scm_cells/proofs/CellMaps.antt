@@ -10,7 +10,7 @@ use Rattle.indexmap.proofs.CallerLemmas.{insert_entry-new}
 use Rattle.scm_sequences.specs.declared.refusal.Refusal.{Refusal}
 use Rattle.scm_sequences.specs.declared.refusal.Refusal.TheVariants.{BadDeclaration}
 use Rattle.scm_sequences.specs.declared.limits.TheConstants.{MOST_CELLS}
-use Rattle.scm_cells.specs.declared.cells.Cell.{Cell}
+use Rattle.scm_cells.specs.declared.cells.CellProperties.{CellProperties}
 use Rattle.scm_cells.specs.declared.initial.Initial.{Initial}
 use Rattle.scm_cells.specs.declared.width.Width.{Width}
 use Rattle.scm_cells.specs.Names.{name_eq}
@@ -19,19 +19,19 @@ use Rattle.scm_cells.specs.Initials.{first_contents}
 use Rattle.scm_cells.specs.CellLists.{Declared, add_refusal, cell_named, declared_cell, initials_of}
 use Rattle.scm_cells.specs.CellEntries.{cells_in}
 
-pub length-cells_in : (entries : List (List ℕ × Cell))
+pub length-cells_in : (entries : List (List ℕ × CellProperties))
     → length (cells_in entries) ≡ length entries
 length-cells_in entries = length-map entries _
 
-pub cell_named-cells_in : (entries : List (List ℕ × Cell)) (name : List ℕ)
+pub cell_named-cells_in : (entries : List (List ℕ × CellProperties)) (name : List ℕ)
     → cell_named (cells_in entries) name ≡ position (name_eq name) (keys_of entries)
 cell_named-cells_in entries name = position-named _ (λ (cell : Declared). cell.name) (λ e. refl) name entries
 
-pub has_name-cells_in : (entries : List (List ℕ × Cell)) (name : List ℕ)
+pub has_name-cells_in : (entries : List (List ℕ × CellProperties)) (name : List ℕ)
     → list_any (λ cell. name_eq cell.name name) (cells_in entries) ≡ is_some (lookup (name_eq name) entries)
 has_name-cells_in entries name = list_any-named _ (λ (cell : Declared). cell.name) (λ e. refl) name entries
 
-pub initials_of-cells_in : (entries : List (List ℕ × Cell))
+pub initials_of-cells_in : (entries : List (List ℕ × CellProperties))
     → initials_of (cells_in entries) ≡ map (λ cell. cell.initial) (values_of entries)
 initials_of-cells_in [] = refl
 initials_of-cells_in (e ∷ entries) = ap (λ rest. e.1.initial ∷ rest) (initials_of-cells_in entries)
@@ -49,7 +49,7 @@ some_from None e x is = cc
 some_from (Some y) e x is = cc
 
 -- what 'Cells::add' finds of its map m, whose cells are these
-module _ {S : Type 0} (m : IndexMap (List ℕ) Cell S) (cells : List Declared) (view_is : cells_in m.entries ≡ cells)
+module _ {S : Type 0} (m : IndexMap (List ℕ) CellProperties S) (cells : List Declared) (view_is : cells_in m.entries ≡ cells)
     (name : List ℕ) (width : Width) (initial : Initial) where
   pub add_refusal-full : MOST_CELLS ≤ length m.entries
       → add_refusal cells name width initial ≡ Some BadDeclaration
@@ -82,11 +82,11 @@ module _ {S : Type 0} (m : IndexMap (List ℕ) Cell S) (cells : List Declared) (
         rw (← view_is, length-cells_in m.entries) (grind (arith, nat_tests)) in
         rw (new, is_full, some_from (first_contents width initial) e contents fitted) refl
 
-    pub cells_in-insert : (entries : List (List ℕ × Cell))
+    pub cells_in-insert : (entries : List (List ℕ × CellProperties))
         → entries ≡ insert_entry name_eq m.entries name record { width = width; initial = contents }
         → IsSomeAnd (declared_cell name width initial) (λ cell. cells_in entries ≡ cells ++ cell ∷ [])
     cells_in-insert entries inserted =
-        let cell : Cell = record { width = width; initial = contents } in
+        let cell : CellProperties = record { width = width; initial = contents } in
         let fits = some_from (first_contents width initial) e contents fitted in
         let last = insert_entry-new name_eq m name cell (none_from _ absent) in
         rw (fits, inserted, last, ← view_is) (map-append _ m.entries _)

@@ -15,12 +15,12 @@ use std::marker::Model;
 /// Contracts see the list of the cells, each as its name, its width and what it holds at first.
 #[derive(Drop)]
 pub struct Cells {
-    cells: IndexMap<Name, Cell>,
+    cells: IndexMap<Name, CellProperties>,
 }
 
 /// A cell's width and what it holds at first, `None` where that is open.
 #[derive(Clone, Copy)]
-struct Cell {
+struct CellProperties {
     width: Width,
     initial: Option<u64>,
 }
@@ -67,7 +67,7 @@ impl Cells {
             return Err(Refusal::BadDeclaration);
         };
         self.cells
-            .insert(name, Cell { width, initial })
+            .insert(name, CellProperties { width, initial })
             .map_err(|_| Refusal::NoMemory)?;
         Ok(place as u8)
     }
@@ -131,7 +131,7 @@ impl Cells {
 }
 
 /// What the cells of a map hold at first, in the order of the map.
-fn collect_initials(cells: &IndexMap<Name, Cell>) -> Result<Vec<Option<u64>>, AllocError>
+fn collect_initials(cells: &IndexMap<Name, CellProperties>) -> Result<Vec<Option<u64>>, AllocError>
     ensures { IfOk result (λ initials. initials.items ≡ map (λ cell. cell.initial) (values cells.now)) }
 {
     cells

@@ -1,7 +1,7 @@
 //! What is taken as so: by a case, or by a clause.
 use crate::claims::{Claim, Kind};
+use crate::drawn_steps::{Need, Why};
 use crate::search::Search;
-use crate::steps::{Need, Why};
 
 impl Search {
     /// Takes a claim as so, of which nothing was known.
@@ -22,7 +22,7 @@ impl Search {
             }
             Kind::Unseen | Kind::UnseenFirst => {
                 let id = self.add(claim, why, needs)?;
-                self.settled.rule_out(claim.to, id)?;
+                self.known_sources.rule_out(claim.to, id)?;
                 self.touch(claim.to)
             }
         }
@@ -36,7 +36,7 @@ impl Search {
 
     /// By this step it is known what a read sees.
     pub(crate) fn settle(&mut self, claim: Claim, id: u32) -> Option<()> {
-        self.settled.settle(claim.to, id)?;
+        self.known_sources.settle(claim.to, id)?;
         self.choices.see(claim)?;
         self.note_left(claim.to, 1)?;
         if let Some(candidates) = &mut self.candidates {
@@ -49,7 +49,7 @@ impl Search {
     // A read that sees first contents tells what they are.
     fn settle_contents(&mut self, read: u32, id: u32) -> Option<()> {
         let cell = self.numbering.cell(read)?;
-        if self.settled.first(cell)?.is_some() || self.values.first(cell)?.is_some() {
+        if self.known_sources.first(cell)?.is_some() || self.values.first(cell)?.is_some() {
             return Some(());
         }
         let value = self.values.found(read)?;

@@ -43,9 +43,9 @@ impl Bounds {
     }
 }
 
-/// What bounds were before.
+/// A change of bounds: what they were before.
 #[derive(Clone, Copy)]
-struct Change {
+struct BoundsChange {
     at: u32,
     bounds: Bounds,
 }
@@ -56,7 +56,7 @@ struct Change {
 pub(crate) struct Candidates {
     procs: u32,
     bounds: Vec<Bounds>,
-    changes: Vec<Change>,
+    changes: Vec<BoundsChange>,
     /// The reads that have a write as the first one that is left of its process, or as the last one.
     pub(crate) firsts: Users,
     pub(crate) lasts: Users,
@@ -158,7 +158,7 @@ impl Candidates {
     pub(crate) fn set(&mut self, read: u32, process: u32, bounds: Bounds) -> Option<usize> {
         let at = self.place(read, process)?;
         let old = *self.bounds.get(at as usize)?;
-        self.changes.push(Change { at, bounds: old }).ok()?;
+        self.changes.push(BoundsChange { at, bounds: old }).ok()?;
         self.exchange(at, bounds)
     }
 

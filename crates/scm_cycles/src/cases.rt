@@ -1,9 +1,9 @@
 //! The search by cases: for a contradiction, or for what reads see in some schedule.
 use crate::claims::Claim;
 use crate::conflict::Conflict;
+use crate::drawn_steps::Why;
 use crate::gathering::draft;
 use crate::search::{Search, Sought};
-use crate::steps::Why;
 use crate::touching::Side;
 use crate::waiting::Next;
 use scm_orders::Derivation;

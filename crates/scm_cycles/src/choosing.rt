@@ -1,7 +1,7 @@
 //! Which case is tried next.
 use crate::claims::Claim;
+use crate::read_views::{ReadView, part};
 use crate::search::{Search, Sought};
-use crate::views::{View, part};
 
 /// What a place's share of its process is counted in.
 const WHOLE: u64 = 1 << 20;
@@ -11,16 +11,16 @@ const READS_OF_STEP: u32 = 8;
 
 /// A claim, and how much speaks for it.
 #[derive(Clone, Copy)]
-struct Choice {
+struct WeightedClaim {
     claim: Claim,
     weight: u64,
 }
 
 // Of two, the one for which more speaks.
-fn better(best: Option<Choice>, claim: Claim, weight: u64) -> Option<Choice> {
+fn better(best: Option<WeightedClaim>, claim: Claim, weight: u64) -> Option<WeightedClaim> {
     match best {
         Some(choice) if choice.weight >= weight => best,
-        _ => Some(Choice { claim, weight }),
+        _ => Some(WeightedClaim { claim, weight }),
     }
 }
 
@@ -102,11 +102,11 @@ impl Search {
 
     fn nearest(
         &self,
-        best: Option<Choice>,
-        view: &View,
+        best: Option<WeightedClaim>,
+        view: &ReadView,
         first: u32,
         last: u32,
-    ) -> Option<Option<Choice>> {
+    ) -> Option<Option<WeightedClaim>> {
         let from = self.writers.count(view.value, first)?;
         let to = self.writers.count(view.value, last)?.checked_add(1)?;
         let here = self.progress(view.read)?;
@@ -131,7 +131,7 @@ impl Search {
     fn choose_order(&self) -> Option<Option<Claim>> {
         let mut best = None;
         for read in 0..self.ops {
-            if let Some(source) = self.settled.source(read)? {
+            if let Some(source) = self.known_sources.source(read)? {
                 let claim = self.steps.get(source)?.claim;
                 if claim.is_order() {
                     best = self.open_order(best, claim)?;
@@ -141,7 +141,11 @@ impl Search {
         Some(best.map(|choice| choice.claim))
     }
 
-    fn open_order(&self, best: Option<Choice>, seen: Claim) -> Option<Option<Choice>> {
+    fn open_order(
+        &self,
+        best: Option<WeightedClaim>,
+        seen: Claim,
+    ) -> Option<Option<WeightedClaim>> {
         let mut best = best;
         for process in 0..self.procs {
             if let Some(x) = self.between(seen, process)? {

@@ -1,8 +1,8 @@
 //! Why suppositions contradict each other.
 use crate::claims::Claim;
-use crate::pieces::Piece;
+use crate::drawn_steps::{Need, Why};
+use crate::path_pieces::PathPiece;
 use crate::search::Search;
-use crate::steps::{Need, Why};
 use std::alloc::Global;
 
 /// Which part of a list of rises a way is looked for in, mostly.
@@ -144,8 +144,8 @@ impl Search {
     fn add_way(&mut self, conflict: &mut Conflict, from: u32, to: u32) -> Option<()> {
         for piece in &self.pieces(from, to, conflict.level)? {
             match *piece {
-                Piece::Step(id) => self.add_step(conflict, id)?,
-                Piece::Stretch { from, to } => self.add_order(conflict, from, to)?,
+                PathPiece::Step(id) => self.add_step(conflict, id)?,
+                PathPiece::Stretch { from, to } => self.add_order(conflict, from, to)?,
             }
         }
         Some(())

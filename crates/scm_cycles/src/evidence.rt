@@ -1,7 +1,7 @@
 //! What a step about what a read may see follows from.
+use crate::drawn_steps::Need;
+use crate::read_views::{ReadView, Share, part};
 use crate::search::Search;
-use crate::steps::Need;
-use crate::views::{Share, View, part};
 
 /// What is to be shown of the writes that are left: nothing, or that each is this operation or comes after it, or that each
 /// comes before it.
@@ -14,7 +14,7 @@ pub(crate) enum Goal {
 
 impl Search {
     /// What shows that each write that the read may see is ruled out or as it is to be, and so of first contents.
-    pub(crate) fn needs(&self, view: &View, goal: Goal) -> Option<Vec<Need>> {
+    pub(crate) fn needs(&self, view: &ReadView, goal: Goal) -> Option<Vec<Need>> {
         let mut needs = Vec::new(self.alloc);
         for share in &view.shares {
             self.add_needs(&mut needs, view, *share, goal)?;
@@ -28,7 +28,7 @@ impl Search {
     fn add_needs(
         &self,
         needs: &mut Vec<Need>,
-        view: &View,
+        view: &ReadView,
         share: Share,
         goal: Goal,
     ) -> Option<()> {
@@ -55,7 +55,13 @@ impl Search {
     }
 
     // The steps that rule out the writes between two places of the value's list.
-    fn add_unseen(&self, needs: &mut Vec<Need>, view: &View, from: usize, to: usize) -> Option<()> {
+    fn add_unseen(
+        &self,
+        needs: &mut Vec<Need>,
+        view: &ReadView,
+        from: usize,
+        to: usize,
+    ) -> Option<()> {
         for write in part(self.writers.of(view.value)?, from, to) {
             let id = self.unseen(*write, view.read)??;
             needs.push(Need::Step(id)).ok()?;
@@ -64,7 +70,7 @@ impl Search {
     }
 
     // How a write is hidden from the read: by a later one of its process, where one is before the read.
-    fn hiding(&self, view: &View, write: u32) -> Option<Need> {
+    fn hiding(&self, view: &ReadView, write: u32) -> Option<Need> {
         let read = view.read;
         let (process, _) = self.numbering.spot(write)?;
         if let Some(from) = *view.last_writes.get(process as usize)?
@@ -86,7 +92,7 @@ impl Search {
 
     // What rules out first contents, where they aren't known to be another value: a write that hides others too, or any
     // before the read, or what another read tells.
-    fn add_first(&self, needs: &mut Vec<Need>, view: &View) -> Option<()> {
+    fn add_first(&self, needs: &mut Vec<Need>, view: &ReadView) -> Option<()> {
         let is_known = self
             .values
             .first(view.cell)?
@@ -109,7 +115,7 @@ impl Search {
         if let Some(id) = self.unseen_first(read)? {
             return Some(id);
         }
-        let (_, id) = self.settled.first(cell)??;
+        let (_, id) = self.known_sources.first(cell)??;
         Some(id)
     }
 }

@@ -1,10 +1,10 @@
 //! The derivation of what a contradiction needs, gathered back from it.
 use crate::claims::{Claim, Kind};
 use crate::conflict::Conflict;
+use crate::drawn_steps::{Need, Step, Why};
 use crate::lines::Lines;
-use crate::pieces::Piece;
+use crate::path_pieces::PathPiece;
 use crate::search::Search;
-use crate::steps::{Need, Step, Why};
 use crate::ways::{OUTSIDE, Written};
 use scm_orders::{Derivation, Fact, Line, Rule};
 use std::alloc::Global;
@@ -111,7 +111,7 @@ impl<'a> Gathering<'a> {
 
     fn need_way(&mut self, from: u32, to: u32, level: u32) -> Option<()> {
         for piece in &self.search.pieces(from, to, level)? {
-            if let Piece::Step(id) = *piece {
+            if let PathPiece::Step(id) = *piece {
                 self.need(id)?;
             }
         }

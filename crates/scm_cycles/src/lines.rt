@@ -7,13 +7,13 @@ use std::alloc::Global;
 const MOST_LINES: usize = 20_000;
 
 /// The operations that a line is about, the one in the midst first: where there is none, that is the first one again.
-type Key = (u32, u32, u32);
+type LineKey = (u32, u32, u32);
 
 /// The lines so far, which of them may be needed again, and the first line of the block that is open.
 #[derive(Drop)]
 pub(crate) struct Lines {
     pub(crate) derivation: Derivation,
-    known: IndexMap<Key, u32>,
+    known: IndexMap<LineKey, u32>,
     block: Option<u32>,
 }
 
@@ -67,12 +67,18 @@ impl Lines {
     }
 
     /// The line under this key, if there is one.
-    pub(crate) fn known(&self, key: Key) -> Option<u32> {
+    pub(crate) fn known(&self, key: LineKey) -> Option<u32> {
         self.known.get(&key).copied()
     }
 
     /// Adds a line that may be needed again.
-    pub(crate) fn keep(&mut self, key: Key, fact: Fact, rule: Rule, hints: &[u32]) -> Option<u32> {
+    pub(crate) fn keep(
+        &mut self,
+        key: LineKey,
+        fact: Fact,
+        rule: Rule,
+        hints: &[u32],
+    ) -> Option<u32> {
         let number = self.add(fact, rule, hints)?;
         let _ = self.known.insert(key, number).ok()?;
         Some(number)

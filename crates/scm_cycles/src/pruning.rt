@@ -1,8 +1,8 @@
 //! What a contradiction can do without.
 use crate::conflict::{Conflict, KnownOrder};
-use crate::pieces::Piece;
+use crate::drawn_steps::{Need, Why};
+use crate::path_pieces::PathPiece;
 use crate::search::Search;
-use crate::steps::{Need, Why};
 
 impl Search {
     /// Leaves out steps that follow from the rest, but for the last one, and orders that the rest shows.
@@ -94,8 +94,8 @@ impl Search {
     fn has_way(&self, conflict: &Conflict, from: u32, to: u32, level: u32) -> Option<bool> {
         for piece in &self.pieces(from, to, level)? {
             let is_there = match *piece {
-                Piece::Step(id) => self.has_step(conflict, id)?,
-                Piece::Stretch { from, to } => {
+                PathPiece::Step(id) => self.has_step(conflict, id)?,
+                PathPiece::Stretch { from, to } => {
                     self.is_covered(conflict, from, to)? || self.order_level(from, to)? == 0
                 }
             };

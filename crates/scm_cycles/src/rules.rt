@@ -1,9 +1,9 @@
 //! The rules by which orders are drawn.
 use crate::claims::{Claim, Kind};
+use crate::drawn_steps::{Need, Why};
 use crate::evidence::Goal;
+use crate::read_views::{ReadView, SourcesLeft};
 use crate::search::Search;
-use crate::steps::{Need, Why};
-use crate::views::{SourcesLeft, View};
 use crate::waiting::News;
 
 /// How many times as much a visit burns of a read whose source is open as of one whose source is settled.
@@ -38,11 +38,11 @@ impl Search {
 
     /// Draws what follows from what this read sees, or may see.
     pub(crate) fn visit(&mut self, read: u32, cell: u32, value: u32) -> Option<()> {
-        if self.settled.source(read)?.is_none() {
+        if self.known_sources.source(read)?.is_none() {
             self.visit_open(read, cell, value)?;
         }
         if self.closing.is_none()
-            && let Some(source) = self.settled.source(read)?
+            && let Some(source) = self.known_sources.source(read)?
         {
             let news = self.waiting.take_news(read)?;
             self.burn(news.count(self.procs))?;
@@ -66,7 +66,7 @@ impl Search {
     }
 
     // Draws what follows from what is left for the read.
-    fn look(&mut self, view: &View) -> Option<()> {
+    fn look(&mut self, view: &ReadView) -> Option<()> {
         match view.left() {
             SourcesLeft::Nothing if !view.is_first_left => {
                 let claim = Claim::before(view.read, view.read);
@@ -88,14 +88,16 @@ impl Search {
     }
 
     // Draws an order by all that the read may see.
-    fn draw_by(&mut self, view: &View, claim: Claim, why: Why, goal: Goal) -> Option<u32> {
+    fn draw_by(&mut self, view: &ReadView, claim: Claim, why: Why, goal: Goal) -> Option<u32> {
         let needs = self.needs(view, goal)?;
         self.draw(claim, why, &needs)
     }
 
     // The read sees first contents: of an unset cell that is news for other reads.
-    fn settle_first(&mut self, view: &View) -> Option<()> {
-        if self.settled.first(view.cell)?.is_some() || self.values.first(view.cell)?.is_some() {
+    fn settle_first(&mut self, view: &ReadView) -> Option<()> {
+        if self.known_sources.first(view.cell)?.is_some()
+            || self.values.first(view.cell)?.is_some()
+        {
             return Some(());
         }
         let needs = self.needs(view, Goal::Nothing)?;
@@ -108,7 +110,7 @@ impl Search {
     }
 
     // The read comes after what all that is left comes after, and before the writes that all of it comes before.
-    fn draw_around(&mut self, view: &View) -> Option<()> {
+    fn draw_around(&mut self, view: &ReadView) -> Option<()> {
         for process in 0..self.procs {
             if self.closing.is_some() {
                 break;
@@ -123,7 +125,7 @@ impl Search {
         Some(())
     }
 
-    fn draw_after_all(&mut self, view: &View, process: u32) -> Option<()> {
+    fn draw_after_all(&mut self, view: &ReadView, process: u32) -> Option<()> {
         let mut count = u32::MAX;
         for (first, _) in view.shares.iter().filter_map(|share| share.left) {
             count = count.min(self.up_to(first, process)?);
@@ -136,7 +138,7 @@ impl Search {
         Some(())
     }
 
-    fn draw_before_all(&mut self, view: &View, process: u32) -> Option<()> {
+    fn draw_before_all(&mut self, view: &ReadView, process: u32) -> Option<()> {
         let mut place = 0;
         for (_, last) in view.shares.iter().filter_map(|share| share.left) {
             place = place.max(self.after(last, process)?);

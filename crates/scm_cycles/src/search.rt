@@ -5,9 +5,9 @@ use crate::cases::Restarts;
 use crate::choices::Choices;
 use crate::claims::Claim;
 use crate::clauses::Clauses;
+use crate::drawn_steps::{DrawnSteps, Need, Why};
+use crate::known_sources::KnownSources;
 use crate::rises::Rises;
-use crate::settled::Settled;
-use crate::steps::{Need, Steps, Why};
 use crate::trail::Trail;
 use crate::waiting::Waiting;
 use scm_clocks::{Clocks, Flags, Given, Numbering, Values, Writers, Writes, is_covered};
@@ -41,11 +41,11 @@ pub(crate) struct Search {
     pub(crate) writers: Writers,
     /// How many operations each process has in the whole trace.
     pub(crate) whole: Vec<u32>,
-    pub(crate) steps: Steps,
+    pub(crate) steps: DrawnSteps,
     pub(crate) procs: u32,
     pub(crate) ops: u32,
     /// What reads see, so far.
-    pub(crate) settled: Settled,
+    pub(crate) known_sources: KnownSources,
     /// What is to be looked at again, once cases are tried.
     pub(crate) waiting: Waiting,
     pub(crate) trail: Trail,
@@ -71,8 +71,8 @@ pub(crate) struct Search {
 /// What a search of so many operations writes on.
 #[derive(Drop)]
 struct Workspace {
-    steps: Steps,
-    settled: Settled,
+    steps: DrawnSteps,
+    known_sources: KnownSources,
     waiting: Waiting,
     choices: Choices,
     clauses: Clauses,
@@ -85,8 +85,8 @@ impl Workspace {
     fn new(alloc: Global, given: &Given, ops: u32, procs: u32) -> Option<Workspace> {
         let cells = u32::try_from(given.values.firsts().len()).ok()?;
         Some(Workspace {
-            steps: Steps::new(alloc, ops)?,
-            settled: Settled::new(alloc, ops, cells)?,
+            steps: DrawnSteps::new(alloc, ops)?,
+            known_sources: KnownSources::new(alloc, ops, cells)?,
             waiting: Waiting::new(alloc, ops)?,
             choices: Choices::new(alloc, ops)?,
             clauses: Clauses::new(alloc, ops)?,
@@ -122,7 +122,7 @@ impl Search {
             steps: workspace.steps,
             procs,
             ops,
-            settled: workspace.settled,
+            known_sources: workspace.known_sources,
             waiting: workspace.waiting,
             trail: Trail::new(alloc),
             choices: workspace.choices,

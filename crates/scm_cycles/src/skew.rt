@@ -1,7 +1,7 @@
 //! The skew of processes, as an assumption.
 use crate::claims::{Claim, Kind};
+use crate::drawn_steps::Why;
 use crate::search::Search;
-use crate::steps::Why;
 
 /// In which parts of the root of a place the skew is given, and how many operations it has beside.
 const PARTS: u64 = 10;

@@ -1,6 +1,6 @@
 //! Lines that lead from one operation to another.
 use crate::conflict::Conflict;
-use crate::pieces::Piece;
+use crate::path_pieces::PathPiece;
 use crate::search::Search;
 use std::alloc::Global;
 
@@ -59,8 +59,8 @@ impl<'a> Written<'a> {
         let mut way = Way::new(self.search.alloc, from);
         for piece in &self.search.pieces(from, to, level)? {
             match *piece {
-                Piece::Step(id) => self.add_step(&mut way, id)?,
-                Piece::Stretch { from, to } => self.add_stretch(&mut way, from, to)?,
+                PathPiece::Step(id) => self.add_step(&mut way, id)?,
+                PathPiece::Stretch { from, to } => self.add_stretch(&mut way, from, to)?,
             }
         }
         Some(way)

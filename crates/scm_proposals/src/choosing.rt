@@ -1,22 +1,22 @@
 //! The choice of the next operation.
+use crate::guided_walk::GuidedWalk;
 use crate::rank::Rank;
-use crate::walk::Walk;
 
-/// An operation that can be made.
+/// An operation that can be made, and its rank.
 #[derive(Clone, Copy)]
-pub(crate) struct Choice {
+pub(crate) struct RankedOperation {
     pub(crate) x: u32,
     pub(crate) rank: Rank,
 }
 
-impl Walk {
+impl GuidedWalk {
     /// The best operation that can be made, if there is one.
-    pub(crate) fn choose(&self) -> Option<Choice> {
+    pub(crate) fn choose(&self) -> Option<RankedOperation> {
         let procs = self.order.facts.procs;
         let mut best = self.choice(self.last, true);
         for process in 0..procs {
             if let Some(
-                Choice {
+                RankedOperation {
                     rank: Rank::Harmless,
                     ..
                 },
@@ -35,14 +35,14 @@ impl Walk {
     }
 
     // The next operation of a process, if it can be made.
-    fn choice(&self, process: u32, is_last: bool) -> Option<Choice> {
+    fn choice(&self, process: u32, is_last: bool) -> Option<RankedOperation> {
         let place = self.order.counts.get(process)?;
         let x = self.order.facts.numbering.number(process, place)?;
         if !self.is_ready(x)? || !self.finds(x)? {
             return None;
         }
         let rank = self.rank(x)?;
-        Some(Choice {
+        Some(RankedOperation {
             x,
             rank: if is_last { rank } else { rank.elsewhere() },
         })

@@ -7,6 +7,7 @@ mod choosing;
 mod ending;
 mod facts;
 mod fuel;
+mod guided_walk;
 mod memory;
 mod numbers;
 mod order;
@@ -15,7 +16,6 @@ mod rank;
 mod remaining;
 mod saturation;
 mod sources;
-mod walk;
 mod windows;
 
 pub use beginning::Beginning;

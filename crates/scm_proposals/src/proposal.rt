@@ -2,8 +2,8 @@
 use crate::beginning::Beginning;
 use crate::facts::Facts;
 use crate::fuel::{fuel_of_search, fuel_of_windows};
+use crate::guided_walk::GuidedWalk;
 use crate::order::Order;
-use crate::walk::Walk;
 use scm_clocks::{Clocks, Given, Part, counts_of};
 use scm_cycles::{Guess, SKEWS, find_sources};
 use scm_sequences::{Lengths, Sequences};
@@ -153,16 +153,16 @@ impl Proposer<'_> {
     }
 
     /// A walk that goes on from so many places.
-    fn walk(&self, kept: usize) -> Option<Walk> {
+    fn walk(&self, kept: usize) -> Option<GuidedWalk> {
         let facts = Facts::new(self.alloc, self.given(kept)?)?;
         let clocks = Clocks::new(self.alloc, &facts.numbering)?;
         self.walk_under(facts, clocks)
     }
 
-    fn walk_under(&self, facts: Facts, clocks: Clocks) -> Option<Walk> {
+    fn walk_under(&self, facts: Facts, clocks: Clocks) -> Option<GuidedWalk> {
         let fuel = self.fuel(&facts);
         let order = Order::new(self.alloc, facts, clocks, fuel)?;
-        Walk::new(self.alloc, order, self.patience())
+        GuidedWalk::new(self.alloc, order, self.patience())
     }
 
     /// A schedule of a part in which each read has the source that was guessed, and that keeps the guessed orders.
@@ -180,7 +180,7 @@ impl Proposer<'_> {
     }
 
     /// So many places of the earlier schedule, and then the walk, if it comes to its end: that burns fuel of the search.
-    fn complete(&self, kept: usize, walk: &mut Walk, fuel: &mut u64) -> Option<Vec<u8>> {
+    fn complete(&self, kept: usize, walk: &mut GuidedWalk, fuel: &mut u64) -> Option<Vec<u8>> {
         let end = walk.make_all();
         let price = u64::from(walk.order.facts.procs).saturating_mul(PRICE_OF_VISIT);
         *fuel = fuel.saturating_sub(walk.order.visits.saturating_mul(price));

@@ -32,14 +32,14 @@ const MOST_PROCESSES_OF_WINDOWS: usize = 16;
 
 /// What was made so far, how wide the next window is, and the number of the first skew that is supposed there.
 #[derive(Drop)]
-struct Progress {
+struct WindowProgress {
     beginning: Beginning,
     schedule: Vec<u8>,
     width: u32,
     skew_number: u64,
 }
 
-impl Progress {
+impl WindowProgress {
     // Where the next window ends.
     fn ends(&self, proposer: &Proposer) -> Option<Vec<u32>> {
         let mut ends = Vec::new(proposer.alloc);
@@ -79,7 +79,7 @@ impl Proposer<'_> {
         {
             return None;
         }
-        let mut progress = Progress {
+        let mut progress = WindowProgress {
             beginning: Beginning::new(self.alloc, self.initials, self.counts.len())?,
             schedule: Vec::new(self.alloc),
             width,
@@ -104,7 +104,7 @@ impl Proposer<'_> {
     }
 
     // Adds the schedule of the next window, as far as it is kept. Whether there is one.
-    fn add_window(&self, progress: &mut Progress, fuel: &mut u64) -> Option<bool> {
+    fn add_window(&self, progress: &mut WindowProgress, fuel: &mut u64) -> Option<bool> {
         let ends = progress.ends(self)?;
         let is_last = ends.as_slice() == self.counts;
         let checked = if is_last {
@@ -143,7 +143,7 @@ impl Proposer<'_> {
 
     // Takes back as many places as are kept of a window, for one that is twice as wide. `None` where nothing is kept, and where
     // the window is as wide as can be.
-    fn go_back(&self, progress: &mut Progress, fuel: &mut u64) -> Option<()> {
+    fn go_back(&self, progress: &mut WindowProgress, fuel: &mut u64) -> Option<()> {
         if progress.schedule.is_empty() {
             return None;
         }

@@ -1,17 +1,17 @@
 //! The ways of orders, cut where they were known before a supposition.
+use crate::drawn_steps::Need;
 use crate::search::Search;
-use crate::steps::Need;
 
 /// A step of a level, or what was known before that level: that the one operation comes before the other.
 #[derive(Clone, Copy)]
-pub(crate) enum Piece {
+pub(crate) enum PathPiece {
     Step(u32),
     Stretch { from: u32, to: u32 },
 }
 
 impl Search {
     /// The way from one operation to another, of steps from this level on and stretches of others.
-    pub(crate) fn pieces(&self, from: u32, to: u32, level: u32) -> Option<Vec<Piece>> {
+    pub(crate) fn pieces(&self, from: u32, to: u32, level: u32) -> Option<Vec<PathPiece>> {
         let mut pieces = Vec::new(self.alloc);
         let (mut reached, mut is_open) = (from, false);
         for id in &self.path(from, to)? {
@@ -23,7 +23,7 @@ impl Search {
             if is_open {
                 self.add_stretch(&mut pieces, reached, step.claim.from)?;
             }
-            pieces.push(Piece::Step(*id)).ok()?;
+            pieces.push(PathPiece::Step(*id)).ok()?;
             (reached, is_open) = (step.claim.to, false);
         }
         if is_open {
@@ -33,11 +33,11 @@ impl Search {
     }
 
     // Adds a stretch, where the order of a process doesn't show it.
-    fn add_stretch(&self, pieces: &mut Vec<Piece>, from: u32, to: u32) -> Option<()> {
+    fn add_stretch(&self, pieces: &mut Vec<PathPiece>, from: u32, to: u32) -> Option<()> {
         if self.is_up_to(from, to)? {
             return Some(());
         }
-        pieces.push(Piece::Stretch { from, to }).ok()
+        pieces.push(PathPiece::Stretch { from, to }).ok()
     }
 
     /// The orders that are needed.

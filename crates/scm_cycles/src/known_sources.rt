@@ -4,19 +4,19 @@ use std::alloc::Global;
 /// For each read the step that tells what it sees, once that is drawn, and those that tell what it doesn't see beside all that
 /// the clocks tell; and for each unset cell the value that it held at first, with the step that tells so.
 #[derive(Drop)]
-pub(crate) struct Settled {
+pub(crate) struct KnownSources {
     sources: Vec<Option<u32>>,
     unseen: Vec<Vec<u32>>,
     firsts: Vec<Option<(u32, u32)>>,
 }
 
-impl Settled {
-    pub(crate) fn new(alloc: Global, ops: u32, cells: u32) -> Option<Settled> {
+impl KnownSources {
+    pub(crate) fn new(alloc: Global, ops: u32, cells: u32) -> Option<KnownSources> {
         let mut unseen = Vec::new(alloc);
         for _ in 0..ops {
             unseen.push(Vec::new(alloc)).ok()?;
         }
-        Some(Settled {
+        Some(KnownSources {
             sources: vec![in alloc; None; ops as usize].ok()?,
             unseen,
             firsts: vec![in alloc; None; cells as usize].ok()?,

@@ -1,5 +1,5 @@
 //! The walk: one operation after the other.
-use crate::choosing::Choice;
+use crate::choosing::RankedOperation;
 use crate::memory::{Before, Memory};
 use crate::numbers::Numbers;
 use crate::order::Order;
@@ -18,7 +18,7 @@ const INCOME_OF_PROCESS: u64 = 3;
 
 /// A walk, with all that is needed to take back what it made.
 #[derive(Drop)]
-pub(crate) struct Walk {
+pub(crate) struct GuidedWalk {
     pub(crate) order: Order,
     pub(crate) memory: Memory,
     pub(crate) last: u32,
@@ -26,7 +26,7 @@ pub(crate) struct Walk {
     // For each write the version of its cell, and 1, at which it may not be made.
     barred: Numbers,
     bars: Vec<Bar>,
-    made: Vec<Made>,
+    made: Vec<MadeOperation>,
     decisions: Vec<Decision>,
     // The most operations that were made, how much fuel there may be at a time, and what is held back of it.
     farthest: usize,
@@ -36,7 +36,7 @@ pub(crate) struct Walk {
 
 /// An operation that was made, and what its cell held before.
 #[derive(Clone, Copy)]
-struct Made {
+struct MadeOperation {
     x: u32,
     process: u32,
     before: Before,
@@ -59,13 +59,13 @@ struct Decision {
     bars: usize,
 }
 
-impl Walk {
+impl GuidedWalk {
     /// Before any operation. Where it makes no more operations than before, it burns no more than `patience`.
-    pub(crate) fn new(alloc: Global, order: Order, patience: u64) -> Option<Walk> {
+    pub(crate) fn new(alloc: Global, order: Order, patience: u64) -> Option<GuidedWalk> {
         let memory = Memory::new(alloc, &order.facts)?;
         let remaining = Remaining::new(alloc, &order.facts)?;
         let barred = Numbers::zeros(alloc, order.facts.ops)?;
-        Some(Walk {
+        Some(GuidedWalk {
             order,
             memory,
             last: 0,
@@ -121,7 +121,7 @@ impl Walk {
     }
 
     // Makes an operation, and takes it back where its consequences contradict each other.
-    fn try_out(&mut self, choice: Choice) -> Option<()> {
+    fn try_out(&mut self, choice: RankedOperation) -> Option<()> {
         let decision = Decision {
             x: choice.x,
             made: self.made.len(),
@@ -184,7 +184,7 @@ impl Walk {
         let (process, _) = self.order.facts.numbering.spot(x)?;
         let cell = self.order.facts.numbering.cell(x)?;
         let before = self.memory.before(cell)?;
-        self.made.push(Made { x, process, before }).ok()?;
+        self.made.push(MadeOperation { x, process, before }).ok()?;
         self.last = process;
         self.order.counts.raise(process)?;
         self.order.flag_entering(process)?;
@@ -199,7 +199,7 @@ impl Walk {
     }
 
     fn unmake(&mut self) -> Option<()> {
-        let Made { x, process, before } = self.made.pop()?;
+        let MadeOperation { x, process, before } = self.made.pop()?;
         let cell = self.order.facts.numbering.cell(x)?;
         self.order.counts.lower(process)?;
         self.remaining.add(&self.order.facts, x)?;

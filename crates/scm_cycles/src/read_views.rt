@@ -45,7 +45,7 @@ impl Share {
 /// The read, the last write of each process to its cell before it, the shares of the processes that wrote the value, and
 /// whether first contents are left.
 #[derive(Drop)]
-pub(crate) struct View {
+pub(crate) struct ReadView {
     pub(crate) read: u32,
     pub(crate) cell: u32,
     pub(crate) value: u32,
@@ -62,7 +62,7 @@ pub(crate) enum SourcesLeft {
     Several,
 }
 
-impl View {
+impl ReadView {
     pub(crate) fn left(&self) -> SourcesLeft {
         let mut left = SourcesLeft::Nothing;
         for (first, last) in self.shares.iter().filter_map(|share| share.left) {
@@ -83,8 +83,8 @@ impl Search {
     }
 
     /// What is known of what a read of a value of a cell may see.
-    pub(crate) fn view(&self, read: u32, cell: u32, value: u32) -> Option<View> {
-        let mut view = View {
+    pub(crate) fn view(&self, read: u32, cell: u32, value: u32) -> Option<ReadView> {
+        let mut view = ReadView {
             read,
             cell,
             value,
@@ -106,7 +106,7 @@ impl Search {
     pub(crate) fn may_see_first(&self, read: u32, cell: u32, value: u32) -> Option<bool> {
         let given = match self.values.first(cell)? {
             Some(first) => Some(first),
-            None => self.settled.first(cell)?.map(|(first, _)| first),
+            None => self.known_sources.first(cell)?.map(|(first, _)| first),
         };
         Some(given.is_none_or(|first| first == value) && self.unseen_first(read)?.is_none())
     }
@@ -122,7 +122,7 @@ impl Search {
     }
 
     fn step_unseen(&self, claim: Claim) -> Option<Option<u32>> {
-        for id in self.settled.unseen(claim.to)? {
+        for id in self.known_sources.unseen(claim.to)? {
             if self.steps.get(*id)?.claim == claim {
                 return Some(Some(*id));
             }
@@ -130,7 +130,7 @@ impl Search {
         Some(None)
     }
 
-    fn add_shares(&self, view: &mut View) -> Option<()> {
+    fn add_shares(&self, view: &mut ReadView) -> Option<()> {
         if self.writers.of(view.value)?.is_empty() {
             return Some(());
         }
@@ -142,7 +142,7 @@ impl Search {
         Some(())
     }
 
-    fn add_share(&self, view: &mut View, process: u32, start: u32) -> Option<()> {
+    fn add_share(&self, view: &mut ReadView, process: u32, start: u32) -> Option<()> {
         let (owner, at) = self.numbering.spot(view.read)?;
         let (later, end) = if owner == process {
             (at, at)
@@ -165,10 +165,10 @@ impl Search {
     }
 
     // What is left within these ranges, but for what steps rule out at both ends.
-    fn share(&self, view: &View, ranges: Ranges) -> Option<Share> {
+    fn share(&self, view: &ReadView, ranges: Ranges) -> Option<Share> {
         let writers = self.writers.of(view.value)?;
         let (mut from, mut to) = (ranges.low, ranges.high);
-        if !self.settled.unseen(view.read)?.is_empty() {
+        if !self.known_sources.unseen(view.read)?.is_empty() {
             from = self.skip(view, from, to)?;
             to = self.skip_back(view, from, to)?;
         }
@@ -176,7 +176,7 @@ impl Search {
     }
 
     // From where on the first write isn't ruled out by a step.
-    fn skip(&self, view: &View, from: usize, to: usize) -> Option<usize> {
+    fn skip(&self, view: &ReadView, from: usize, to: usize) -> Option<usize> {
         let writers = self.writers.of(view.value)?;
         for at in from..to {
             if self.unseen(*writers.get(at)?, view.read)?.is_none() {
@@ -187,7 +187,7 @@ impl Search {
     }
 
     // Up to where the last one isn't.
-    fn skip_back(&self, view: &View, from: usize, to: usize) -> Option<usize> {
+    fn skip_back(&self, view: &ReadView, from: usize, to: usize) -> Option<usize> {
         let writers = self.writers.of(view.value)?;
         for back in from..to {
             let end = to.checked_sub(back.checked_sub(from)?)?;
@@ -202,7 +202,7 @@ impl Search {
     }
 
     // How many operations of a process come before some write of the cell that comes before the read.
-    fn hidden_before(&self, view: &View, process: u32) -> Option<u32> {
+    fn hidden_before(&self, view: &ReadView, process: u32) -> Option<u32> {
         let mut most = 0;
         for last in view.last_writes.iter().flatten() {
             most = most.max(self.before(*last, process)?);

@@ -41,16 +41,16 @@ pub(crate) struct Step {
 
 /// All of them, in the order in which they were drawn, with a chain of those that lead on from each operation.
 #[derive(Drop)]
-pub(crate) struct Steps {
+pub(crate) struct DrawnSteps {
     list: Vec<Step>,
     needs: Vec<Need>,
     newest: Vec<Option<u32>>,
     older: Vec<Option<u32>>,
 }
 
-impl Steps {
-    pub(crate) fn new(alloc: Global, ops: u32) -> Option<Steps> {
-        Some(Steps {
+impl DrawnSteps {
+    pub(crate) fn new(alloc: Global, ops: u32) -> Option<DrawnSteps> {
+        Some(DrawnSteps {
             list: Vec::new(alloc),
             needs: Vec::new(alloc),
             newest: vec![in alloc; None; ops as usize].ok()?,
