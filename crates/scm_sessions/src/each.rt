@@ -1,11 +1,12 @@
 //! The run of a script with a thread for each session.
-ghost use Rattle.std.specs.Prelude.{◌≡◌, ◌↔◌, length, true, false, All, IfOk, IfErr, IsErrOf, IsTrue};
+ghost use Rattle.std.specs.Prelude.{◌≡◌, ◌≤◌, ◌⊎◌, ◌↔◌, [], length, true, false, vec_capacity, All, IfOk, IfErr, IsErrOf, IsTrue};
+ghost use Rattle.std.specs.Io.KnownBytes.{Appends};
 ghost use Rattle.scm_book.specs.Journal.{IsLegalBook};
-ghost use Rattle.scm_sessions.specs.Ports.{inner_of, has_failed};
+ghost use Rattle.scm_sessions.specs.Ports.{inner_of, has_failed, AppendsPart};
 ghost use Rattle.scm_sessions.specs.JournalText.{AreNamed};
 ghost use Rattle.scm_sessions.specs.Exchanges.{has_reply};
 ghost use Rattle.scm_sessions.specs.Findings.{unanswered};
-ghost use Rattle.scm_sessions.specs.Jobs.{AllAnswered};
+ghost use Rattle.scm_sessions.specs.Jobs.{AreBegun, AllAnswered, jobs_text, with_jobs};
 ghost use Rattle.scm_sessions.specs.Groups.{GroupsWhole, GroupsWholeLines};
 ghost use Rattle.scm_sessions.specs.SharedRuns.{AllFit, IsSharedRun};
 ghost use Rattle.scm_sessions.specs.EachRuns.{FindsGroups, RunsGroupsWholeLines, RunsGroupsPart};
@@ -16,9 +17,11 @@ use crate::groups::{Group, Groups};
 use crate::jobs::{Job, jobs_of};
 use crate::reading::LineReader;
 use crate::{Ended, Findings, Port, RunFault};
+use scm_cells::Name;
 use scm_expand::Gate;
 use scm_results::Tally;
-use scm_shared::{BookNaming, BookToken, SharedBook};
+use scm_sequences::NoMemory;
+use scm_shared::{BookNaming, BookToken, Pass, SharedBook};
 use std::alloc::Global;
 use std::io::{Read, Write};
 use std::sync::Wait;
@@ -47,6 +50,22 @@ fn read_groups<R: Read>(
     }
 }
 
+/// The groups as they begin to run, and room for the names and the passes of their sessions.
+fn begin_jobs<B: BookNaming, T: Wait>(
+    rt: &T,
+    alloc: Global,
+    book: &SharedBook<B>,
+    groups: Vec<Group>,
+) -> Result<(Vec<Job<B>>, Vec<Name>, Vec<Pass<B>>), NoMemory>
+    ensures begun { IfOk result (λ begins. AreBegun 0 groups.items begins.0.items) }
+    ensures empty { IfOk result (λ begins. (begins.1.items ≡ []) × (begins.2.items ≡ [])) }
+    ensures fits { IfOk result (λ begins. (length begins.0.items ≤ vec_capacity begins.1) × (length begins.0.items ≤ vec_capacity begins.2)) }
+{
+    let jobs = jobs_of(rt, alloc, book, groups)?;
+    let (names, passes) = room_for(alloc, jobs.len())?;
+    Ok((jobs, names, passes))
+}
+
 /// Answers the lines of all groups beside workers, which end with them. Gives the tallies that they bring back.
 fn answer_jobs<B: BookNaming + Send + Sync, G: Gate + Sync, T: Threads + Wait + Sync>(
     rt: &T,
@@ -61,6 +80,35 @@ fn answer_jobs<B: BookNaming + Send + Sync, G: Gate + Sync, T: Threads + Wait + 
     ensures each { length jobs.new.items ≡ length jobs.old.items }
 {
     answer_beside_workers::<B, G, T>(rt, alloc, book, jobs.as_mut_slice(), gate, workers)
+}
+
+/// Writes the replies of all groups, and tells what was found in them where the script was read whole.
+fn write_results<B: BookNaming, R: Read, W: Write>(
+    reader: &Port<R>,
+    writer: &mut Port<W>,
+    jobs: &[Job<B>],
+    counted: Findings,
+    findings: &mut Findings,
+) -> Result<(), RunFault>
+    requires { has_failed writer.old ≡ false }
+    ensures whole { IfOk result (λ _. (has_failed reader.now ≡ false)
+        × Appends (W.contents (inner_of writer.old)) (W.contents (inner_of writer.new)) (jobs_text jobs.now)
+        × (findings.new ≡ with_jobs counted jobs.now)) }
+    ensures read_failed { IsErrOf result RunFault.ReadFailed → (has_failed reader.now ≡ true)
+        × Appends (W.contents (inner_of writer.old)) (W.contents (inner_of writer.new)) (jobs_text jobs.now) }
+    ensures write_failed { IsErrOf result RunFault.WriteFailed →
+        AppendsPart (W.contents (inner_of writer.old)) (W.contents (inner_of writer.new)) (jobs_text jobs.now) }
+    ensures fault { IfErr result (λ fault. (fault ≡ RunFault.WriteFailed) ⊎ (fault ≡ RunFault.ReadFailed)) }
+    ensures failed { IsErrOf result RunFault.WriteFailed ↔ (has_failed writer.new ≡ true) }
+{
+    write_groups(writer, jobs)?;
+    if reader.failed() {
+        return Err(RunFault::ReadFailed);
+    }
+    let mut found = counted;
+    add_findings(&mut found, jobs);
+    *findings = found;
+    Ok(())
 }
 
 /// Runs a script over a new book with a thread for each session, while `workers` threads look for situations
@@ -110,15 +158,9 @@ pub fn run_each<
     let mut found = Findings::new();
     let groups = read_groups(alloc, reader, &mut found)?;
     let book = SharedBook::<B>::new(alloc, token);
-    let mut jobs = jobs_of(rt, alloc, &book, groups)?;
-    let (mut names, passes) = room_for(alloc, jobs.len())?;
+    let (mut jobs, mut names, passes) = begin_jobs(rt, alloc, &book, groups)?;
     let tallies = answer_jobs::<B, G, T>(rt, alloc, &book, &mut jobs, gate, workers);
-    write_groups(writer, jobs.as_slice())?;
-    if reader.failed() {
-        return Err(RunFault::ReadFailed);
-    }
-    add_findings(&mut found, jobs.as_slice());
-    *findings = found;
+    write_results(reader, writer, jobs.as_slice(), found, findings)?;
     let passes = gathered(jobs, &mut names, passes);
     Ok(Ended {
         audit: book.audit(passes, tallies),
