@@ -1,5 +1,5 @@
 //! The open traces: the machine that a book stands for.
-ghost use Rattle.std.specs.Prelude.{◌≡◌, ◌↔◌, [], IfOk, IfErr, IsTrue};
+ghost use Rattle.std.specs.Prelude.{◌≡◌, ◌↔◌, [], is_ok, IfOk, IfErr, IsTrue};
 ghost use Rattle.std.specs.Map.{remove_entry};
 ghost use Rattle.std.specs.Option.{option_map};
 ghost use Rattle.indexmap.specs.IndexMap.{insert_entry};
@@ -21,7 +21,7 @@ use scm_cells::Name;
 use scm_frontier::Steps;
 use scm_lowering::Access;
 use scm_sequences::{MOST_TRACES, NoMemory, Refusal};
-use std::alloc::Global;
+use std::alloc::{AllocFailed, Global};
 use std::marker::Model;
 
 /// The open traces, by name, in the order of their opening, each with the set that is kept for it.
@@ -41,6 +41,15 @@ impl Model for Traces {
     ghost Value = { List (List ℕ × KeptTrace) };
 
     ghost view = { λ t. t.traces.entries };
+}
+
+/// Whether the trace was put into the map. What comes back is let go in a function of its own, over whose many fields LLVM would
+/// take a sixth of the time of the whole program were it in the caller's.
+#[inline(never)]
+fn is_put(put: Result<Option<OpenTrace>, AllocFailed<(Name, OpenTrace)>>) -> bool
+    ensures { result ≡ is_ok put }
+{
+    put.is_ok()
 }
 
 impl Traces {
@@ -90,10 +99,11 @@ impl Traces {
         ensures put { IfOk result (λ _. self.new ≡ insert_entry name_eq self.old name trace) }
         ensures kept { IfErr result (λ _. self.new ≡ self.old) }
     {
-        let put = self.traces.insert(name, trace);
-        let answer = if put.is_ok() { Ok(()) } else { Err(NoMemory) };
-        drop(put);
-        answer
+        if is_put(self.traces.insert(name, trace)) {
+            Ok(())
+        } else {
+            Err(NoMemory)
+        }
     }
 
     fn claim(&mut self, session: u16, name: Name, process: u64) -> Reply
