@@ -59,14 +59,6 @@ written old new name state (Err e) become is as_said = as_said
 -- ---- open
 
 module _ (old new : Machine) (session : ℕ) (name : List ℕ) (procs budget : ℕ) (decls : List Decl) where
-  pub open-bad_trace : (refusal : Refusal) → Refuses (trace_cause procs budget decls) refusal → new ≡ old → IsStepOrNoMemory old session (opens name procs budget decls) (refused refusal) new
-  open-bad_trace refusal refuses same =
-      answers-refused (open_refusal old name procs budget decls) (new ≡ old) refusal (Opens old session name procs budget decls (refused refusal) new) (first refuses) same
-    where
-      first : Refuses (trace_cause procs budget decls) refusal → Refuses (open_refusal old name procs budget decls) refusal
-      first (inl is) = inl (ap (λ o. option_or o (place_cause old name)) is)
-      first (inr is) = inr is
-
   pub open-no_place : (refusal : Refusal) → trace_cause procs budget decls ≡ None → place_cause old name ≡ Some refusal → new ≡ old → IsStepOrNoMemory old session (opens name procs budget decls) (refused refusal) new
   open-no_place refusal good is same =
       answers-refused (open_refusal old name procs budget decls) (new ≡ old) refusal (Opens old session name procs budget decls (refused refusal) new) (inl (ap (λ o. option_or o (place_cause old name)) good ∙ is)) same

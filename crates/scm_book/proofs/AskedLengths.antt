@@ -1,5 +1,5 @@
 -- The lengths that a question is about: the present ones, or those of a mark.
-use Rattle.std.proofs.Common.{◌≡◌, ℕ, ◌+◌, ◌*◌, ◌<◌, ◌^◌, List, length, Bool, true, false, Option, None, Some, Result, Ok, Err, IsOkAnd, MatchResult, refl, sym, ap, ap₂, ◌∙◌, subst, arith}
+use Rattle.std.proofs.Common.{◌≡◌, ℕ, ◌+◌, ◌*◌, ◌<◌, ◌^◌, List, length, Bool, true, false, Option, None, Some, Result, Ok, IsOkAnd, refl, sym, ap, ap₂, ◌∙◌, subst, arith}
 use Rattle.scm_sequences.specs.declared.refusal.Refusal.{Refusal}
 use Rattle.scm_sequences.specs.Lengths.{IsWithin}
 use Rattle.scm_sequences.specs.Ops.{NamesCellsBelow}
@@ -13,7 +13,7 @@ use Rattle.scm_book.specs.Asking.{CanAsk, IsAsWanted, lengths_asked, AsksFor}
 use Rattle.scm_book.specs.Calls.{ReplyData}
 use Rattle.scm_book.specs.Machine.{TraceState, trace_in}
 use Rattle.scm_book.specs.Refusals.{refusal_in, question_cause}
-use Rattle.scm_book.specs.Sets.{asked_lengths, most_steps, Searches, SearchesAt}
+use Rattle.scm_book.specs.Sets.{asked_lengths, most_steps}
 use Rattle.scm_book.specs.Sound.{IsSoundTrace, IsKeptFor}
 use Rattle.scm_book.specs.Steps.{IsAbout, AsksCycle}
 use Rattle.scm_book.specs.Verdicts.{Fits, FitsCycle}
@@ -32,10 +32,6 @@ asked state mark present r whole is = asked_as state mark ∙ ap (λ l. lengths_
 pub cause_none : (state : TraceState) (mark : Option ℕ) (lengths : List ℕ) → asked_lengths state mark ≡ Ok lengths → question_cause state mark ≡ None
 cause_none state None lengths is = refl
 cause_none state (Some m) lengths is = ap refusal_in is
-
-pub cause_some : (state : TraceState) (mark : Option ℕ) (refusal : Refusal) → asked_lengths state mark ≡ Err refusal → question_cause state mark ≡ Some refusal
-cause_some state None refusal is = cc
-cause_some state (Some m) refusal is = ap refusal_in is
 
 present_as : (state : TraceState) (lengths : List ℕ) → asked_lengths state None ≡ Ok lengths → lengths_of state.sequences ≡ lengths
 present_as state lengths is = cc
@@ -81,11 +77,3 @@ pub asks_cycle_found : (state : TraceState) (mark : Option ℕ) (lengths : List 
 asks_cycle_found state mark lengths reply is fits = about_asked state mark (λ t. FitsCycle t reply) lengths is fits
 
 -- ---- what it makes of the set
-
-pub searches_found : (state : TraceState) (mark : Option ℕ) (reply : ReplyData) (before after : ℕ) (old new : Kept) (lengths : List ℕ) → asked_lengths state mark ≡ Ok lengths → Searches state reply before after lengths old new → SearchesAt state mark reply before after old new
-searches_found state mark reply before after old new lengths is searches =
-    subst (λ r. MatchResult r (λ l. Searches state reply before after l old new) (λ refusal. (new ≡ old) × (after ≡ before))) (sym is) searches
-
-pub searches_refused : (state : TraceState) (mark : Option ℕ) (reply : ReplyData) (made : ℕ) (set : Kept) (refusal : Refusal) → asked_lengths state mark ≡ Err refusal → SearchesAt state mark reply made made set set
-searches_refused state mark reply made set refusal is =
-    subst (λ r. MatchResult r (λ l. Searches state reply made made l set set) (λ refusal. (set ≡ set) × (made ≡ made))) (sym is) (refl, refl)

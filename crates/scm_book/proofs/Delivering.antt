@@ -60,10 +60,6 @@ with_fates-more r [] fate = refl
 with_fates-more r (first ∷ fates) fate = with_fates-more (with_fate r first) fates fate
 
 module _ (machine : Machine) (old : List (List ℕ × Kept)) where
-  -- none was delivered yet
-  pub Delivers-none : (delivered : Results) → delivered ≡ none_counted → Delivers machine old [] delivered old
-  Delivers-none delivered is = record { fates = []; meet = (refl, refl); counted = is }
-
   -- one more
   pub Delivers-more : (mid new : List (List ℕ × Kept)) (outcomes : List Expanded) (delivered more : Results) (outcome : Expanded) (fate : Fate) → Delivers machine old outcomes delivered mid → Meets machine mid outcome fate new
       → more ≡ with_fate delivered fate → Delivers machine old (outcomes ++ outcome ∷ []) more new

@@ -1,5 +1,5 @@
 -- The set that is kept for a trace stays one.
-use Rattle.std.proofs.Common.{ℕ, ◌≡◌, ◌≤◌, List, length, sym, ap, ◌∙◌, subst, arith}
+use Rattle.std.proofs.Common.{ℕ, ◌≡◌, List, length, sym, ap, ◌∙◌, subst, arith}
 use Rattle.scm_sequences.specs.declared.op.Op.{Op}
 use Rattle.scm_sequences.specs.Sequences.{pushed, cut_lists}
 use Rattle.scm_sequences.specs.Traces.{trace_of, cut_to}
@@ -13,11 +13,6 @@ use Rattle.scm_book.specs.Sound.{IsKeptFor}
 -- said of the set's own initial values
 pub kept_of : (state : TraceState) (set : Kept) → IsKeptFor state set → IsKept (trace_of set.initials state.sequences) set.members
 kept_of state set for = subst (λ initials. IsKept (trace_of initials state.sequences) set.members) (sym for.initials) for.kept
-
--- after a question
-pub IsKeptFor-asked : (state : TraceState) (old new : Kept) → IsKeptFor state old → IsKept (trace_of old.initials state.sequences) new.members → new.initials ≡ old.initials → length new.members ≤ state.budget → IsKeptFor state new
-IsKeptFor-asked state old new for kept same few =
-    record { initials = same ∙ for.initials; kept = subst (λ initials. IsKept (trace_of initials state.sequences) new.members) for.initials kept; few = few }
 
 -- after a report
 pub IsKeptFor-grown : (state : TraceState) (old new : Kept) (p : ℕ) (op : Op) (sequences : List (List Op)) → IsKeptFor state old

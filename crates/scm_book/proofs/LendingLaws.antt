@@ -1,5 +1,5 @@
 -- Questions that are lent by a trace and taken back.
-use Rattle.std.proofs.Common.{ℕ, ◌≡◌, ◌+◌, ◌<◌, ◌≤◌, ◌^◌, Bool, true, false, not, nat_eq, List, [], ◌∷◌, ◌++◌, length, take, get_or, slice_get, Option, None, Some, IsSomeAnd, Ok, MatchOption, refl, sym, ap, ◌∙◌, subst, arith}
+use Rattle.std.proofs.Common.{ℕ, ◌≡◌, ◌+◌, ◌<◌, ◌^◌, Bool, true, false, not, nat_eq, List, [], ◌∷◌, ◌++◌, length, take, get_or, slice_get, Option, None, Some, IsSomeAnd, Ok, MatchOption, refl, sym, ap, ◌∙◌, subst, arith}
 use Rattle.std.specs.Option.{option_eq}
 use Rattle.std.proofs.lemmas.List.{get_or-map, take_more}
 use Rattle.std.specs.Map.{set_value}
@@ -56,11 +56,6 @@ take-initials cells initials c held as_many within same holds is =
 -- the start alone is kept for the trace
 pub IsKeptFor-start : (state : TraceState) (start : Kept) → IsSoundTrace state → start.initials ≡ initials_of state.cells → length start.members ≡ 1 → IsKept (trace_of (initials_of state.cells) state.sequences) start.members → IsKeptFor state start
 IsKeptFor-start state start sound initials one kept = record { initials = initials; kept = kept; few = omega (arith, one, sound.least) }
-
--- and so is a set that was carried over
-pub IsKeptFor-carried : (state : TraceState) (set new : Kept) → set.initials ≡ initials_of state.cells → new.initials ≡ set.initials → IsKept (trace_of set.initials state.sequences) new.members → length new.members ≤ state.budget → IsKeptFor state new
-IsKeptFor-carried state set new cells same kept few =
-    record { initials = same ∙ cells; kept = subst (λ initials. IsKept (trace_of initials state.sequences) new.members) cells kept; few = few }
 
 -- ---- of the traces
 

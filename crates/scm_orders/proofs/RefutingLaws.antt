@@ -119,9 +119,6 @@ module _ (t : Trace) (lines : List Line) (hints s : List ℕ) (follow : AllFollo
 
   -- ---- line k, where all lines before it hold where the assumptions of their blocks do
 
-  HoldsUnder : Line → Type 0
-  HoldsUnder line = AssumptionsHold t s lines line.block → Holds t s line.fact
-
   module _ (k : ℕ) (line : Line) (at_k : slice_get lines k ≡ Some line) (holds : (j : ℕ) (l : Line) → j < k → slice_get lines j ≡ Some l → AssumptionsHold t s lines l.block → Holds t s l.fact) where
     earlier_of : (j : ℕ) (l : Line) → slice_get (take k lines) j ≡ Some l → IsOf t l.fact
     earlier_of j l is = (follow.each j l (of_taken lines k j l is).1).follows.operations

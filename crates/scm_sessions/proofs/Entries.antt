@@ -1,5 +1,5 @@
 -- A name enters with its pass, or stays as it was.
-use Rattle.std.proofs.Common.{◌≡◌, ℕ, suc, ◌+◌, ◌<◌, ◌≤◌, List, [], ◌∷◌, ◌++◌, length, refl, sym, ap, ◌∙◌, subst, arith, length-append, Bool, true, false, if◌then◌else◌, take}
+use Rattle.std.proofs.Common.{◌≡◌, ℕ, suc, ◌+◌, ◌<◌, ◌≤◌, List, [], ◌∷◌, ◌++◌, length, refl, sym, ap, ◌∙◌, subst, arith, length-append, Bool, true, false, take}
 use Rattle.std.specs.List.{list_any, position_or_len}
 use Rattle.std.proofs.Math.Seq.{take-append_seam}
 use Rattle.std.proofs.lemmas.Bool.{or_parts}
@@ -53,9 +53,6 @@ module _ (old new : List (List ℕ)) (name : List ℕ) (passes : List Known) (pl
       → (length new ≤ MOST_SESSIONS) × (length passes ≡ length new) × AreNumberedFrom 0 passes
   known_invariant most numbered =
       (subst (λ (ns : List (List ℕ)). length ns ≤ MOST_SESSIONS) (sym same_names) most, count ∙ ap length (sym same_names), numbered)
-
-  pub known_place : (place ≡ session_of new name) × (place < length passes)
-  known_place = (is_place ∙ ap (λ (ns : List (List ℕ)). session_of ns name) (sym same_names), within)
 
   pub known_made : (other : List ℕ) → made_by (callers new passes) other ≡ made_by (callers old passes) other
   known_made other = ap (λ (ns : List (List ℕ)). made_by (callers ns passes) other) same_names

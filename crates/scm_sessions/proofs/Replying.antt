@@ -10,7 +10,7 @@ use Rattle.scm_book.specs.Calls.{CallData, ReplyData, reply_data}
 use Rattle.scm_shared.specs.Passes.{Known, newcomer}
 use Rattle.scm_sessions.specs.declared.numbered.NumberedLine.{NumberedLine}
 use Rattle.scm_sessions.specs.declared.findings.Findings.{Findings}
-use Rattle.scm_sessions.specs.Asking.{Asked, asked_data}
+use Rattle.scm_sessions.specs.Asking.{asked_data}
 use Rattle.scm_sessions.specs.Exchanges.{Exchange, exchange, has_reply}
 use Rattle.scm_sessions.specs.Numbered.{Numbered, numbered, line_data}
 use Rattle.scm_sessions.specs.Findings.{replies_of, unanswered, found_in, with_findings}
@@ -193,9 +193,6 @@ AreBegun-last number (g ∷ groups) (first ∷ jobs) group last (inr begin) more
 pub record HaveBegun (groups : List Group) (jobs : List Job) (number : ℕ) : Type 0 where
   pub begun_so : AreBegun 0 groups jobs
   pub number_is : number ≡ number_after jobs 0
-
-pub HaveBegun-none : HaveBegun [] [] 0
-HaveBegun-none = record { begun_so = tt; number_is = refl }
 
 -- one more begins
 pub HaveBegun-more : {groups : List Group} {jobs : List Job} {number : ℕ} → HaveBegun groups jobs number → (group : Group) (last : Job) (now : List Job) (next : ℕ)

@@ -1,5 +1,5 @@
 -- Beginnings of a history.
-use Rattle.std.proofs.Common.{◌≡◌, ◌⊎◌, ◌≤◌, List, [], ◌∷◌, ◌++◌, length, refl, sym, ap, ◌∙◌, subst, inl, inr, ⊎_elim, arith, append_assoc, append-nil, length-append}
+use Rattle.std.proofs.Common.{◌≡◌, ◌⊎◌, List, [], ◌∷◌, ◌++◌, refl, sym, ap, ◌∙◌, subst, inl, inr, ⊎_elim, append_assoc, append-nil}
 use mathlib.Core.List.{IsPrefix}
 
 module _ {A : Type 0} where
@@ -11,9 +11,6 @@ module _ {A : Type 0} where
 
   pub prefix_longer : (xs ys more : List A) → IsPrefix xs ys → IsPrefix xs (ys ++ more)
   prefix_longer xs ys more p = (p.0 ++ more, sym (append_assoc xs p.0 more) ∙ ap (λ (l : List A). l ++ more) p.1)
-
-  pub prefix_length : (xs ys : List A) → IsPrefix xs ys → length xs ≤ length ys
-  prefix_length xs ys p = let e : length (xs ++ p.0) ≡ length ys = ap length p.1 in omega (arith, e, length-append xs p.0)
 
   prefix_cons : (x : A) (xs ys : List A) → IsPrefix xs ys → IsPrefix (x ∷ xs) (x ∷ ys)
   prefix_cons x xs ys p = (p.0, ap (λ (l : List A). x ∷ l) p.1)

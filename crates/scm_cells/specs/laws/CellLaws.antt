@@ -1,13 +1,13 @@
 -- The laws of lists of cells.
-use Rattle.std.specs.Prelude.{ℕ, ◌≡◌, ◌^◌, ◌<◌, ◌≤◌, ◌≢◌, List, [], ◌∷◌, ◌++◌, length, All, Bool, true, false, ◌||◌, nat_le, if◌then◌else◌, Option, None, Some, option_map, IfSome, IsSomeAnd, slice_index_or}
+use Rattle.std.specs.Prelude.{ℕ, ◌≡◌, ◌<◌, ◌≢◌, List, [], ◌∷◌, ◌++◌, length, Bool, true, false, ◌||◌, nat_le, if◌then◌else◌, Option, None, Some, option_map, IsSomeAnd, slice_index_or}
 use Rattle.std.specs.List.{list_any}
 use Rattle.std.specs.Option.{option_map_or}
 use Rattle.std.proofs.Common.{◌∙◌, refl, sym, subst, arith, true≢false}
 use Rattle.std.proofs.lemmas.Bool.Decides.{nat_tests}
 use Rattle.std.proofs.lemmas.List.{length-map, length-append}
-use Rattle.std.proofs.lemmas.List.Elements.{All-nil, All-push}
+use Rattle.std.proofs.lemmas.List.Elements.{All-push}
 use Rattle.std.proofs.lemmas.List.Folds.{list_any_at}
-use Rattle.std.proofs.lemmas.List.Quantifiers.{all_pairs_push, position-Some}
+use Rattle.std.proofs.lemmas.List.Quantifiers.{all_pairs_push}
 use Rattle.scm_sequences.specs.declared.refusal.Refusal.TheVariants.{BadDeclaration}
 use Rattle.scm_sequences.specs.declared.limits.TheConstants.{MOST_CELLS}
 use Rattle.scm_cells.specs.declared.width.Width.{Width}
@@ -21,30 +21,14 @@ use Rattle.scm_cells.specs.declared.initial.Initial.TheVariants.{Given, Unset}
 use Rattle.scm_cells.specs.Initials.{first_contents}
 use Rattle.scm_cells.specs.Widths.{values_of}
 use Rattle.scm_cells.specs.Numbers.{value_of_number}
-use Rattle.scm_cells.specs.CellLists.{Declared, AreCells, HasValueInWidth, add_refusal, cell_named, declared_cell, initials_of}
+use Rattle.scm_cells.specs.CellLists.{Declared, AreCells, HasValueInWidth, add_refusal, declared_cell, initials_of}
 
 -- ---- the cell of a name
-
-pub cell_named-lt : (cells : List Declared) (name : List ℕ) (c : ℕ)
-    → cell_named cells name ≡ Some c → c < length cells
-cell_named-lt cells name c found =
-    let some_cell : Declared = record { name = []; width = W; initial = None } in
-    (position-Some (λ cell. name_eq cell.name name) cells c some_cell found).0
-
--- the cell that is found has the name
-pub cell_named-name : (cells : List Declared) (name : List ℕ) (c : ℕ) (d : Declared)
-    → cell_named cells name ≡ Some c → (slice_index_or cells c d).name ≡ name
-cell_named-name cells name c d found =
-    (name_eq-Decides _ name).0 (position-Some (λ cell. name_eq cell.name name) cells c d found).1
 
 -- ---- what cells hold at first
 
 pub length-initials_of : (cells : List Declared) → length (initials_of cells) ≡ length cells
 length-initials_of cells = length-map cells (λ cell. cell.initial)
-
-pub values_of-le : (width : Width) → values_of width ≤ 2 ^ 64
-values_of-le W = omega arith
-values_of-le D = omega arith
 
 -- a number's value in a cell is below the limit of the cell's width
 pub value_of_number-lt : (width : Width) (number : Num) (value : ℕ)
@@ -55,28 +39,7 @@ value_of_number-lt W (Negative m) value is = grind (arith, nat_tests)
 value_of_number-lt D (Negative m) value is = grind (arith, nat_tests)
 value_of_number-lt width Beyond value is = cc
 
--- what a cell holds at first is below 2^64
-pub HasValueInWidth-lt : (cell : Declared)
-    → HasValueInWidth cell → IfSome cell.initial (λ value. value < 2 ^ 64)
-HasValueInWidth-lt cell h = by cell.initial h
-  where
-    by : (initial : Option ℕ) → IfSome initial (λ value. value < values_of cell.width)
-        → IfSome initial (λ value. value < 2 ^ 64)
-    by None h = tt
-    by (Some value) h = omega (arith, h, values_of-le cell.width)
-
-pub AreCells-lt : (cells : List Declared)
-    → AreCells cells → All (λ cell. IfSome cell.initial (λ value. value < 2 ^ 64)) cells
-AreCells-lt cells are k d below = HasValueInWidth-lt (slice_index_or cells k d) (are.values k d below)
-
 -- ---- adding a cell
-
-pub AreCells-nil : AreCells []
-AreCells-nil = record {
-  most = omega arith;
-  different = λ i j d below within. absurd (omega arith);
-  values = All-nil HasValueInWidth;
-}
 
 -- what holds where a cell can be added
 pub record IsAddable (cells : List Declared) (name : List ℕ) (width : Width) (initial : Initial) : Type 0 where

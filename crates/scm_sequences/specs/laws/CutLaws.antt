@@ -8,7 +8,7 @@ use Rattle.scm_sequences.specs.declared.op.Op.{Op}
 use Rattle.scm_sequences.specs.Ops.{cell_of, read_of, written_to}
 use Rattle.scm_sequences.specs.Lengths.{IsWithin}
 use Rattle.scm_sequences.specs.Sequences.{operation, operations, pushed, lengths_of, cut_lists}
-use Rattle.scm_sequences.specs.laws.SequenceLaws.{length-pushed, operation-pushed, length-cut_lists, operation-cut_lists, length-operations_cut, lengths_of-cut_lists, cut_lists-whole, cut_lists-cut_lists, cut_lists-pushed}
+use Rattle.scm_sequences.specs.laws.SequenceLaws.{length-pushed, operation-pushed, length-cut_lists, operation-cut_lists, length-operations_cut, lengths_of-cut_lists, cut_lists-whole}
 use Rattle.scm_sequences.specs.Traces.{Trace, trace_of, initial_of, cut_to}
 use Rattle.scm_sequences.specs.Fronts.{count_in, counts_of, IsFront, following, last_written, first_read, value_before, IsLegal, IsSchedule}
 use Rattle.scm_sequences.specs.laws.FrontLaws.{slice_index-counts_of, count_in-here, count_in-earlier, count_in_past, last_written-nil, last_written-step, first_read-nil, first_read-step, value_before-is, IsLegal-start, IsLegal-step, IsLegal-earlier, IsLegal-operation, IsLegal-finds, IsFront-from_IsLegal, finds-same}
@@ -109,14 +109,8 @@ IsSchedule-cut t lengths front within legal whole =
 pub IsLegal-schedule_cut : (t : Trace) (lengths front : List ℕ) → IsSchedule (cut_to t lengths) front → IsLegal t front
 IsLegal-schedule_cut t lengths front schedule = IsLegal-from_cut t lengths front schedule.legal
 
-pub counts_of-schedule_cut : (t : Trace) (lengths front : List ℕ) → IsWithin lengths (lengths_of t.sequences) → IsSchedule (cut_to t lengths) front → counts_of t front ≡ lengths
-counts_of-schedule_cut t lengths front within schedule = sym (counts_of-cut t lengths front) ∙ schedule.whole ∙ lengths_of-cut_lists t.sequences lengths within
-
 pub cut_to-whole : (t : Trace) → cut_to t (lengths_of t.sequences) ≡ t
 cut_to-whole t = ap (trace_of t.initials) (cut_lists-whole t.sequences)
-
-pub cut_to-cut_to : (t : Trace) (more less : List ℕ) → IsWithin less more → cut_to (cut_to t more) less ≡ cut_to t less
-cut_to-cut_to t more less within = ap (trace_of t.initials) (cut_lists-cut_lists t.sequences more less within)
 
 -- ---- one more operation
 
@@ -127,17 +121,8 @@ AgreeOn-pushed t p op front within =
 pub IsLegal-pushed : (t : Trace) (p : ℕ) (op : Op) (front : List ℕ) → IsLegal t front → IsLegal (trace_of t.initials (pushed t.sequences p op)) front
 IsLegal-pushed t p op front legal = IsLegal-agree t (trace_of t.initials (pushed t.sequences p op)) front (AgreeOn-pushed t p op front (IsFront-from_IsLegal t front legal)) legal
 
--- a front without the new operation is legal only where it was legal before
-pub IsLegal-from_pushed : (t : Trace) (p : ℕ) (op : Op) (front : List ℕ) → IsLegal (trace_of t.initials (pushed t.sequences p op)) front → IsFront t front → IsLegal t front
-IsLegal-from_pushed t p op front legal within =
-    IsLegal-agree (trace_of t.initials (pushed t.sequences p op)) t front (AgreeOn-sym t (trace_of t.initials (pushed t.sequences p op)) front (AgreeOn-pushed t p op front within)) legal
-
 pub value_before-pushed : (t : Trace) (p : ℕ) (op : Op) (front : List ℕ) → IsLegal t front → (c : ℕ) → value_before (trace_of t.initials (pushed t.sequences p op)) front c ≡ value_before t front c
 value_before-pushed t p op front legal c = sym (value_before-agree t (trace_of t.initials (pushed t.sequences p op)) front c (AgreeOn-pushed t p op front (IsFront-from_IsLegal t front legal)))
 
 pub counts_of-pushed : (t : Trace) (p : ℕ) (op : Op) (front : List ℕ) → counts_of (trace_of t.initials (pushed t.sequences p op)) front ≡ counts_of t front
 counts_of-pushed t p op front = counts_of-agree (trace_of t.initials (pushed t.sequences p op)) t front (length-pushed t.sequences p op)
-
--- a cut to counts that were reached before the push is the same trace as before
-pub cut_to-pushed : (t : Trace) (p : ℕ) (op : Op) (lengths : List ℕ) → IsWithin lengths (lengths_of t.sequences) → cut_to (trace_of t.initials (pushed t.sequences p op)) lengths ≡ cut_to t lengths
-cut_to-pushed t p op lengths within = ap (trace_of t.initials) (cut_lists-pushed t.sequences p op lengths within)

@@ -47,10 +47,6 @@ fixed_value-nil t c = by (is_none (initial_of t c)) (unwritten_read t [] c) (unw
   by true fixed is = is
   by false fixed is = refl
 
--- the parts of a value and of what is fixed, each by what was written last, held at first, and read first
-value_of_parts : Option ℕ → Option ℕ → Option ℕ → Option ℕ
-value_of_parts last initial first = option_or last (option_or initial first)
-
 -- a place fixes what it reads of a cell that is open before it
 pub fixed_value-step : (t : Trace) (p : ℕ) (earlier : List ℕ) (c : ℕ) → fixed_value t (p ∷ earlier) c
     ≡ option_or (fixed_value t earlier c) (if is_none (value_before t earlier c) then option_and_then (λ op. read_of op c) (following t earlier p) else None)

@@ -222,14 +222,6 @@ value_before-other t p earlier op c legal e ne = value_before-step t p earlier o
 
 -- ---- fronts that are longer by more than one place
 
-pub count_in-append : (later earlier : List ℕ) (p : ℕ) → count_in (later ++ earlier) p ≡ count_in later p + count_in earlier p
-count_in-append [] earlier p = let none : count_in [] p ≡ 0 = count_in-nil p in omega arith
-count_in-append (q ∷ later) earlier p =
-    let whole : count_in (q ∷ (later ++ earlier)) p ≡ (if q == p then 1 else 0) + count_in (later ++ earlier) p = count_in-step q (later ++ earlier) p in
-    let part : count_in (q ∷ later) p ≡ (if q == p then 1 else 0) + count_in later p = count_in-step q later p in
-    let rest : count_in (later ++ earlier) p ≡ count_in later p + count_in earlier p = count_in-append later earlier p in
-    omega arith
-
 pub IsLegal-suffix : (t : Trace) (later earlier : List ℕ) → IsLegal t (later ++ earlier) → IsLegal t earlier
 IsLegal-suffix t [] earlier legal = legal
 IsLegal-suffix t (p ∷ later) earlier legal = IsLegal-suffix t later earlier (IsLegal-earlier t p (later ++ earlier) legal)

@@ -1,9 +1,9 @@
 -- The laws of sequences of operations: how they are read after a push and after a cut.
-use Rattle.std.proofs.Common.{ℕ, zero, suc, ◌≡◌, ◌≢◌, ◌+◌, ◌<◌, ◌≤◌, min, List, [], ◌∷◌, ◌++◌, length, take, get_or, None, Some, slice_get, slice_index, replicate, slice_index_or, slice_set, All, sym, refl, ap, ap₂, ◌∙◌, subst, ⊎_elim, arith}
+use Rattle.std.proofs.Common.{ℕ, zero, suc, ◌≡◌, ◌≢◌, ◌+◌, ◌<◌, ◌≤◌, min, List, [], ◌∷◌, ◌++◌, length, take, get_or, None, Some, slice_get, slice_index, replicate, slice_index_or, All, sym, refl, ap, ap₂, ◌∙◌, subst, ⊎_elim, arith}
 use Rattle.std.proofs.Math.Seq.{take-nil}
 use Rattle.std.proofs.lemmas.Bool.{cases_lt, cases_eq, ltb-true, ltb-false, lt-ltb, cond-true}
 use Rattle.std.proofs.lemmas.Option.{slice_get_past, slice_get_within, slice_get-get_or, get_or_from_slice_get}
-use Rattle.std.proofs.lemmas.List.{length-set, length-map, length-take, length-replicate, length_push, get_or-set_same, get_or-set_other, get_or_past, ext_get_or, map-set, set_past, take_all, take-take, take-append-le, get_or_default}
+use Rattle.std.proofs.lemmas.List.{length-set, length-map, length-take, length-replicate, length_push, get_or-set_same, get_or-set_other, get_or_past, ext_get_or, set_past, take_all, get_or_default}
 use Rattle.std.proofs.lemmas.List.Elements.{All-head, All-tail, All-nil, All-get_or, All-set, All-push, All-replicate, All-from_get_or}
 use Rattle.scm_sequences.specs.declared.op.Op.{Op}
 use Rattle.scm_sequences.specs.declared.limits.TheConstants.{MOST_OPERATIONS, MOST_PROCESSES}
@@ -23,10 +23,6 @@ slice_get-append_left : {X : Type 0} (xs ys : List X) (k : ℕ) → k < length x
 slice_get-append_left [] ys k h = absurd (omega (arith, h))
 slice_get-append_left (x ∷ xs) ys zero h = refl
 slice_get-append_left (x ∷ xs) ys (suc k) h = slice_get-append_left xs ys k (omega arith)
-
-slice_get-push : {X : Type 0} (xs : List X) (y : X) → slice_get (xs ++ y ∷ []) (length xs) ≡ Some y
-slice_get-push [] y = refl
-slice_get-push (x ∷ xs) y = slice_get-push xs y
 
 -- ---- operations, and the operation at a place
 
@@ -95,11 +91,6 @@ operations-pushed_here sequences p op h = get_or-set_same sequences p (operation
 pub operations-pushed_other : (sequences : List (List Op)) (p : ℕ) (op : Op) (q : ℕ) → q ≢ p → operations (pushed sequences p op) q ≡ operations sequences q
 operations-pushed_other sequences p op q h = get_or-set_other sequences p q (operations sequences p ++ op ∷ []) [] h
 
-pub operation-pushed_here : (sequences : List (List Op)) (p : ℕ) (op : Op) → p < length sequences → operation (pushed sequences p op) p (length (operations sequences p)) ≡ Some op
-operation-pushed_here sequences p op h =
-    operation-operations (pushed sequences p op) p (length (operations sequences p)) ∙ ap (λ ops. slice_get ops (length (operations sequences p))) (operations-pushed_here sequences p op h)
-    ∙ slice_get-push (operations sequences p) op
-
 -- each operation stays at its place
 pub operation-pushed : (sequences : List (List Op)) (p : ℕ) (op : Op) (q k : ℕ) → k < length (operations sequences q) → operation (pushed sequences p op) q k ≡ operation sequences q k
 operation-pushed sequences p op q k h = ⊎_elim here other (cases_eq q p) where
@@ -117,11 +108,6 @@ operation-pushed sequences p op q k h = ⊎_elim here other (cases_eq q p) where
 
   other : q ≢ p → operation (pushed sequences p op) q k ≡ operation sequences q k
   other ne = operation-operations (pushed sequences p op) q k ∙ ap (λ ops. slice_get ops k) (operations-pushed_other sequences p op q ne) ∙ back
-
-pub lengths_of-pushed : (sequences : List (List Op)) (p : ℕ) (op : Op) → p < length sequences → lengths_of (pushed sequences p op) ≡ slice_set (lengths_of sequences) p (slice_index (lengths_of sequences) p + 1)
-lengths_of-pushed sequences p op h =
-    map-set length sequences p (operations sequences p ++ op ∷ [])
-    ∙ ap (slice_set (lengths_of sequences) p) (length_push (operations sequences p) op ∙ ap (λ n. n + 1) (sym (slice_index-lengths_of sequences p)))
 
 pub NamesCellsBelow-pushed : (n : ℕ) (sequences : List (List Op)) (p : ℕ) (op : Op) → NamesCellsBelow n sequences → cell_of op < n → NamesCellsBelow n (pushed sequences p op)
 NamesCellsBelow-pushed n sequences p op names below =
@@ -196,35 +182,6 @@ cut_lists-whole (ops ∷ others) = ap₂ ◌∷◌ (take_all (length ops) ops (o
 -- sequences are equal where they are as many and each process has the same operations
 pub same_sequences : (s u : List (List Op)) → length s ≡ length u → ((p : ℕ) → operations s p ≡ operations u p) → s ≡ u
 same_sequences s u as_many same = ext_get_or [] s u as_many (λ p _. same p)
-
--- a cut of a cut, and a cut after a push: what lies beyond the counts makes no difference
-pub cut_lists-cut_lists : (sequences : List (List Op)) (more less : List ℕ) → IsWithin less more → cut_lists (cut_lists sequences more) less ≡ cut_lists sequences less
-cut_lists-cut_lists sequences more less within =
-    same_sequences (cut_lists (cut_lists sequences more) less) (cut_lists sequences less)
-    (length-cut_lists (cut_lists sequences more) less ∙ length-cut_lists sequences more ∙ sym (length-cut_lists sequences less)) at where
-      at : (p : ℕ) → operations (cut_lists (cut_lists sequences more) less) p ≡ operations (cut_lists sequences less) p
-      at p =
-          operations-cut_lists (cut_lists sequences more) less p ∙ ap (take (slice_index less p)) (operations-cut_lists sequences more p)
-          ∙ take-take (slice_index less p) (slice_index more p) (operations sequences p) (within.none_greater p) ∙ sym (operations-cut_lists sequences less p)
-
-pub cut_lists-pushed : (sequences : List (List Op)) (p : ℕ) (op : Op) (lengths : List ℕ) → IsWithin lengths (lengths_of sequences) → cut_lists (pushed sequences p op) lengths ≡ cut_lists sequences lengths
-cut_lists-pushed sequences p op lengths within =
-    same_sequences (cut_lists (pushed sequences p op) lengths) (cut_lists sequences lengths)
-    (length-cut_lists (pushed sequences p op) lengths ∙ length-pushed sequences p op ∙ sym (length-cut_lists sequences lengths)) at where
-      front : (q : ℕ) → take (slice_index lengths q) (operations (pushed sequences p op) q) ≡ take (slice_index lengths q) (operations sequences q)
-      front q = ⊎_elim here (λ ne. ap (take (slice_index lengths q)) (operations-pushed_other sequences p op q ne)) (cases_eq q p) where
-        most : slice_index lengths q ≤ length (operations sequences q)
-        most = subst (λ n. slice_index lengths q ≤ n) (slice_index-lengths_of sequences q) (within.none_greater q)
-
-        here : q ≡ p → take (slice_index lengths q) (operations (pushed sequences p op) q) ≡ take (slice_index lengths q) (operations sequences q)
-        here same = ⊎_elim
-            (λ in_p. ap (take (slice_index lengths q)) (ap (operations (pushed sequences p op)) same ∙ operations-pushed_here sequences p op in_p ∙ ap (λ r. operations sequences r ++ op ∷ []) (sym same))
-            ∙ take-append-le (slice_index lengths q) (operations sequences q) (op ∷ []) most)
-            (λ past. ap (λ s. take (slice_index lengths q) (operations s q)) (set_past sequences p (operations sequences p ++ op ∷ []) past))
-            (cases_lt p (length sequences))
-
-      at : (q : ℕ) → operations (cut_lists (pushed sequences p op) lengths) q ≡ operations (cut_lists sequences lengths) q
-      at q = operations-cut_lists (pushed sequences p op) lengths q ∙ front q ∙ sym (operations-cut_lists sequences lengths q)
 
 pub NamesCellsBelow-cut_lists : (n : ℕ) (sequences : List (List Op)) (lengths : List ℕ) → NamesCellsBelow n sequences → NamesCellsBelow n (cut_lists sequences lengths)
 NamesCellsBelow-cut_lists n sequences lengths names = NamesCellsBelow-from_operations n (cut_lists sequences lengths) each where
