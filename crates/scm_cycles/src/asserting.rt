@@ -22,7 +22,7 @@ impl Search {
             }
             Kind::Unseen | Kind::UnseenFirst => {
                 let id = self.add(claim, why, needs)?;
-                self.known_sources.rule_out(claim.to, id)?;
+                self.read_facts.rule_out(claim.to, id)?;
                 self.touch(claim.to)
             }
         }
@@ -36,7 +36,7 @@ impl Search {
 
     /// By this step it is known what a read sees.
     pub(crate) fn settle(&mut self, claim: Claim, id: u32) -> Option<()> {
-        self.known_sources.settle(claim.to, id)?;
+        self.read_facts.settle(claim.to, id)?;
         self.choices.see(claim)?;
         self.note_left(claim.to, 1)?;
         if let Some(candidates) = &mut self.candidates {
@@ -49,7 +49,7 @@ impl Search {
     // A read that sees first contents tells what they are.
     fn settle_contents(&mut self, read: u32, id: u32) -> Option<()> {
         let cell = self.numbering.cell(read)?;
-        if self.known_sources.first(cell)?.is_some() || self.values.first(cell)?.is_some() {
+        if self.read_facts.first(cell)?.is_some() || self.values.first(cell)?.is_some() {
             return Some(());
         }
         let value = self.values.found(read)?;

@@ -131,7 +131,7 @@ impl Search {
     fn choose_order(&self) -> Option<Option<Claim>> {
         let mut best = None;
         for read in 0..self.ops {
-            if let Some(source) = self.known_sources.source(read)? {
+            if let Some(source) = self.read_facts.source(read)? {
                 let claim = self.steps.get(source)?.claim;
                 if claim.is_order() {
                     best = self.open_order(best, claim)?;

@@ -115,7 +115,7 @@ impl Search {
         if let Some(id) = self.unseen_first(read)? {
             return Some(id);
         }
-        let (_, id) = self.known_sources.first(cell)??;
+        let (_, id) = self.read_facts.first(cell)??;
         Some(id)
     }
 }

@@ -32,24 +32,29 @@ impl Search {
     pub(crate) fn narrow(&mut self, read: u32, cell: u32, value: u32) -> Option<CandidatesLeft> {
         let hidden = self.hidden(read, cell)?;
         let mut writes: u32 = 0;
-        for process in 0..self.procs {
-            let old = self.candidates.as_ref()?.get(read, process)?;
-            if old.len() == 0 {
-                continue;
-            }
-            let count = *hidden.counts.get(process as usize)?;
-            let new = self.narrowed(old, read, value, process, count)?;
-            if new != old {
-                let steps = self.candidates.as_mut()?.set(read, process, new)?;
-                self.burn_for(steps)?;
-            }
-            writes = writes.saturating_add(new.len());
+        for (process, count) in (0..self.procs).zip(hidden.counts) {
+            let left = self.narrow_process(read, value, process, count)?;
+            writes = writes.saturating_add(left);
         }
         let is_first_left = !hidden.is_written && self.may_see_first(read, cell, value)?;
         Some(CandidatesLeft {
             writes,
             is_first_left,
         })
+    }
+
+    // The same in one process, so many of whose operations are hidden. How many writes are left there.
+    fn narrow_process(&mut self, read: u32, value: u32, process: u32, hidden: u32) -> Option<u32> {
+        let old = self.candidates.as_ref()?.get(read, process)?;
+        if old.len() == 0 {
+            return Some(0);
+        }
+        let new = self.narrowed(old, read, value, process, hidden)?;
+        if new != old {
+            let steps = self.candidates.as_mut()?.set(read, process, new)?;
+            self.burn_for(steps)?;
+        }
+        Some(new.len())
     }
 
     fn hidden(&self, read: u32, cell: u32) -> Option<Hidden> {
@@ -60,9 +65,7 @@ impl Search {
         for process in 0..self.procs {
             if let Some(last) = self.last_write(process, cell, read) {
                 hidden.is_written = true;
-                for (most, count) in hidden.counts.iter_mut().zip(self.clocks.row(last)?) {
-                    *most = (*most).max(*count);
-                }
+                raise_to(&mut hidden.counts, self.clocks.row(last)?);
             }
         }
         Some(hidden)
@@ -147,22 +150,32 @@ impl Search {
 
     // Whether all that is left comes before a write of the cell that the read isn't known to come before.
     fn is_before_more(&self, read: u32, cell: u32) -> Option<bool> {
-        let mut most = [0; MOST_PROCESSES];
-        for bounds in self.candidates.as_ref()?.row(read)? {
-            if let Some((_, last)) = bounds.ends {
-                for (place, after) in most.iter_mut().zip(self.afters.as_ref()?.row(last)?) {
-                    *place = (*place).max(*after);
-                }
-            }
-        }
+        let places = self.after_all_left(read)?;
         let (owner, _) = self.numbering.spot(read)?;
-        for process in 0..self.procs {
-            let place = *most.get(process as usize)?;
+        for (process, place) in (0..self.procs).zip(places) {
             let known = self.after(read, process)?;
             if process != owner && self.is_written(process, cell, place, known)? {
                 return Some(true);
             }
         }
         Some(false)
+    }
+
+    // From which place on the operations of each process come after all writes that are left for the read.
+    fn after_all_left(&self, read: u32) -> Option<[u32; MOST_PROCESSES]> {
+        let mut places = [0; MOST_PROCESSES];
+        for bounds in self.candidates.as_ref()?.row(read)? {
+            if let Some((_, last)) = bounds.ends {
+                raise_to(&mut places, self.afters.as_ref()?.row(last)?);
+            }
+        }
+        Some(places)
+    }
+}
+
+// Each count is at least what stands in the row.
+fn raise_to(counts: &mut [u32], row: &[u32]) {
+    for (count, least) in counts.iter_mut().zip(row) {
+        *count = (*count).max(*least);
     }
 }

@@ -106,7 +106,7 @@ impl Search {
     pub(crate) fn may_see_first(&self, read: u32, cell: u32, value: u32) -> Option<bool> {
         let given = match self.values.first(cell)? {
             Some(first) => Some(first),
-            None => self.known_sources.first(cell)?.map(|(first, _)| first),
+            None => self.read_facts.first(cell)?.map(|(first, _)| first),
         };
         Some(given.is_none_or(|first| first == value) && self.unseen_first(read)?.is_none())
     }
@@ -122,7 +122,7 @@ impl Search {
     }
 
     fn step_unseen(&self, claim: Claim) -> Option<Option<u32>> {
-        for id in self.known_sources.unseen(claim.to)? {
+        for id in self.read_facts.unseen(claim.to)? {
             if self.steps.get(*id)?.claim == claim {
                 return Some(Some(*id));
             }
@@ -168,7 +168,7 @@ impl Search {
     fn share(&self, view: &ReadView, ranges: Ranges) -> Option<Share> {
         let writers = self.writers.of(view.value)?;
         let (mut from, mut to) = (ranges.low, ranges.high);
-        if !self.known_sources.unseen(view.read)?.is_empty() {
+        if !self.read_facts.unseen(view.read)?.is_empty() {
             from = self.skip(view, from, to)?;
             to = self.skip_back(view, from, to)?;
         }

@@ -38,11 +38,11 @@ impl Search {
 
     /// Draws what follows from what this read sees, or may see.
     pub(crate) fn visit(&mut self, read: u32, cell: u32, value: u32) -> Option<()> {
-        if self.known_sources.source(read)?.is_none() {
+        if self.read_facts.source(read)?.is_none() {
             self.visit_open(read, cell, value)?;
         }
         if self.closing.is_none()
-            && let Some(source) = self.known_sources.source(read)?
+            && let Some(source) = self.read_facts.source(read)?
         {
             let news = self.waiting.take_news(read)?;
             self.burn(news.count(self.procs))?;
@@ -95,9 +95,7 @@ impl Search {
 
     // The read sees first contents: of an unset cell that is news for other reads.
     fn settle_first(&mut self, view: &ReadView) -> Option<()> {
-        if self.known_sources.first(view.cell)?.is_some()
-            || self.values.first(view.cell)?.is_some()
-        {
+        if self.read_facts.first(view.cell)?.is_some() || self.values.first(view.cell)?.is_some() {
             return Some(());
         }
         let needs = self.needs(view, Goal::Nothing)?;

@@ -6,7 +6,7 @@ use crate::choices::Choices;
 use crate::claims::Claim;
 use crate::clauses::Clauses;
 use crate::drawn_steps::{DrawnSteps, Need, Why};
-use crate::known_sources::KnownSources;
+use crate::read_facts::ReadFacts;
 use crate::rises::Rises;
 use crate::trail::Trail;
 use crate::waiting::Waiting;
@@ -45,7 +45,7 @@ pub(crate) struct Search {
     pub(crate) procs: u32,
     pub(crate) ops: u32,
     /// What reads see, so far.
-    pub(crate) known_sources: KnownSources,
+    pub(crate) read_facts: ReadFacts,
     /// What is to be looked at again, once cases are tried.
     pub(crate) waiting: Waiting,
     pub(crate) trail: Trail,
@@ -68,11 +68,15 @@ pub(crate) struct Search {
     most_changes: u64,
 }
 
-/// What a search of so many operations writes on.
+/// What a search writes on, and its sizes.
 #[derive(Drop)]
 struct Workspace {
+    procs: u32,
+    ops: u32,
+    fuel: u64,
+    most_changes: u64,
     steps: DrawnSteps,
-    known_sources: KnownSources,
+    read_facts: ReadFacts,
     waiting: Waiting,
     choices: Choices,
     clauses: Clauses,
@@ -82,11 +86,17 @@ struct Workspace {
 }
 
 impl Workspace {
-    fn new(alloc: Global, given: &Given, ops: u32, procs: u32) -> Option<Workspace> {
+    fn new(alloc: Global, given: &Given, fuel: u64) -> Option<Workspace> {
+        let (procs, ops) = (given.numbering.procs()?, given.numbering.len()?);
         let cells = u32::try_from(given.values.firsts().len()).ok()?;
+        let numbers = u64::from(ops).checked_mul(u64::from(procs))?;
         Some(Workspace {
+            procs,
+            ops,
+            fuel: fuel.checked_sub(numbers)?,
+            most_changes: numbers.checked_mul(CHANGES_OF_NUMBER)?,
             steps: DrawnSteps::new(alloc, ops)?,
-            known_sources: KnownSources::new(alloc, ops, cells)?,
+            read_facts: ReadFacts::new(alloc, ops, cells)?,
             waiting: Waiting::new(alloc, ops)?,
             choices: Choices::new(alloc, ops)?,
             clauses: Clauses::new(alloc, ops)?,
@@ -99,11 +109,7 @@ impl Workspace {
 
 impl Search {
     pub(crate) fn new(alloc: Global, sought: Sought, given: Given, fuel: u64) -> Option<Search> {
-        let (procs, ops) = (given.numbering.procs()?, given.numbering.len()?);
-        let numbers = u64::from(ops).checked_mul(u64::from(procs))?;
-        let fuel = fuel.checked_sub(numbers)?;
-        let most_changes = numbers.checked_mul(CHANGES_OF_NUMBER)?;
-        let workspace = Workspace::new(alloc, &given, ops, procs)?;
+        let workspace = Workspace::new(alloc, &given, fuel)?;
         let Given {
             numbering,
             values,
@@ -120,9 +126,9 @@ impl Search {
             writers,
             whole,
             steps: workspace.steps,
-            procs,
-            ops,
-            known_sources: workspace.known_sources,
+            procs: workspace.procs,
+            ops: workspace.ops,
+            read_facts: workspace.read_facts,
             waiting: workspace.waiting,
             trail: Trail::new(alloc),
             choices: workspace.choices,
@@ -135,8 +141,8 @@ impl Search {
             rises: workspace.rises,
             flags: workspace.flags,
             closing: None,
-            fuel,
-            most_changes,
+            fuel: workspace.fuel,
+            most_changes: workspace.most_changes,
         })
     }
 
@@ -330,23 +336,35 @@ impl Search {
     /// So many of a process come before `y`, by this step, and before what comes after `y` in its process. What steps lead on
     /// from is flagged.
     pub(crate) fn raise(&mut self, y: u32, process: u32, count: u32, id: u32) -> Option<()> {
-        let (owner, at) = self.numbering.spot(y)?;
-        self.rises.add((owner, at), process, count, id)?;
-        if let Some(afters) = &mut self.afters {
-            let lowered = lower(afters, &self.numbering, (owner, at), process, count)?;
-            self.burn(lowered)?;
-        }
+        let spot = self.numbering.spot(y)?;
+        self.rises.add(spot, process, count, id)?;
+        self.lower_afters(spot, process, count)?;
+        let (owner, at) = spot;
         for place in at..self.numbering.count(owner)? {
             let x = self.numbering.number(owner, place)?;
             if self.before(x, process)? >= count {
                 break;
             }
-            self.burn(1)?;
-            self.clocks.set(x, process, count)?;
-            self.waiting.raised(x, process)?;
-            if self.steps.newest(x).is_some() {
-                self.flags.add(x)?;
-            }
+            self.raise_clock(x, process, count)?;
+        }
+        Some(())
+    }
+
+    // Where it is kept what comes after operations, the first so many of the process are told that this place does.
+    fn lower_afters(&mut self, spot: (u32, u32), process: u32, count: u32) -> Option<()> {
+        if let Some(afters) = &mut self.afters {
+            let lowered = lower(afters, &self.numbering, spot, process, count)?;
+            self.burn(lowered)?;
+        }
+        Some(())
+    }
+
+    fn raise_clock(&mut self, x: u32, process: u32, count: u32) -> Option<()> {
+        self.burn(1)?;
+        self.clocks.set(x, process, count)?;
+        self.waiting.raised(x, process)?;
+        if self.steps.newest(x).is_some() {
+            self.flags.add(x)?;
         }
         Some(())
     }

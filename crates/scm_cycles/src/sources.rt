@@ -120,7 +120,7 @@ impl Search {
 
     // First contents of cells that aren't open settle no read.
     fn source(&self, read: u32) -> Option<u32> {
-        if let Some(id) = self.known_sources.source(read)? {
+        if let Some(id) = self.read_facts.source(read)? {
             let claim = self.steps.get(id)?.claim;
             if claim.kind == Kind::Sees {
                 return Some(claim.from);

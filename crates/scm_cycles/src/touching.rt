@@ -12,7 +12,7 @@ pub(crate) enum Side {
 impl Search {
     /// What is known of this read may have changed.
     pub(crate) fn touch(&mut self, read: u32) -> Option<()> {
-        let is_settled = self.known_sources.source(read)?.is_some();
+        let is_settled = self.read_facts.source(read)?.is_some();
         self.waiting.touch(read, is_settled)
     }
 
@@ -30,7 +30,7 @@ impl Search {
     /// What comes before this operation, or after it, has changed: that concerns it and the reads that see it, or may see it.
     pub(crate) fn touch_around(&mut self, x: u32, side: Side) -> Option<()> {
         if self.values.found(x).is_some()
-            && (side == Side::Before || self.known_sources.source(x)?.is_none())
+            && (side == Side::Before || self.read_facts.source(x)?.is_none())
         {
             self.touch(x)?;
         }
@@ -90,7 +90,7 @@ impl Search {
 
     /// An unset cell held this value at first, by this step: that concerns all its reads.
     pub(crate) fn set_first(&mut self, cell: u32, value: u32, id: u32) -> Option<()> {
-        self.known_sources.set_first(cell, value, id)?;
+        self.read_facts.set_first(cell, value, id)?;
         if !self.waiting.is_noted() {
             return Some(());
         }

@@ -84,7 +84,7 @@ impl Search {
             let step = self.steps.take_back()?;
             let read = step.claim.to;
             let cell = self.numbering.cell(read)?;
-            self.known_sources.take_back(read, cell, self.steps.len()?)?;
+            self.read_facts.take_back(read, cell, self.steps.len()?)?;
         }
         Some(())
     }

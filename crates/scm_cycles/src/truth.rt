@@ -29,7 +29,7 @@ impl Search {
     }
 
     fn seen_truth(&self, claim: Claim) -> Option<Option<bool>> {
-        if let Some(id) = self.known_sources.source(claim.to)? {
+        if let Some(id) = self.read_facts.source(claim.to)? {
             return Some(Some(self.steps.get(id)?.claim == claim));
         }
         let is_false = self.unseen_need(claim)?.is_some();
@@ -39,7 +39,7 @@ impl Search {
     /// What shows that this claim, that a read sees something, is false, if something does.
     fn unseen_need(&self, claim: Claim) -> Option<Option<Need>> {
         let read = claim.to;
-        if let Some(id) = self.known_sources.source(read)? {
+        if let Some(id) = self.read_facts.source(read)? {
             let is_other = self.steps.get(id)?.claim != claim;
             return Some(if is_other { Some(Need::Step(id)) } else { None });
         }
@@ -78,7 +78,7 @@ impl Search {
                 return Some(Some(Need::Hiding { from, to: read }));
             }
         }
-        let Some((value, id)) = self.known_sources.first(cell)? else {
+        let Some((value, id)) = self.read_facts.first(cell)? else {
             return Some(None);
         };
         let is_other = self.values.found(read) != Some(value);
@@ -94,7 +94,7 @@ impl Search {
             }),
             Kind::Sees | Kind::SeesFirst => self.unseen_need(claim)?,
             Kind::Unseen | Kind::UnseenFirst => Some(Need::Step(
-                self.known_sources.source(claim.to)??,
+                self.read_facts.source(claim.to)??,
             )),
         }
     }

@@ -4,19 +4,19 @@ use std::alloc::Global;
 /// For each read the step that tells what it sees, once that is drawn, and those that tell what it doesn't see beside all that
 /// the clocks tell; and for each unset cell the value that it held at first, with the step that tells so.
 #[derive(Drop)]
-pub(crate) struct KnownSources {
+pub(crate) struct ReadFacts {
     sources: Vec<Option<u32>>,
     unseen: Vec<Vec<u32>>,
     firsts: Vec<Option<(u32, u32)>>,
 }
 
-impl KnownSources {
-    pub(crate) fn new(alloc: Global, ops: u32, cells: u32) -> Option<KnownSources> {
+impl ReadFacts {
+    pub(crate) fn new(alloc: Global, ops: u32, cells: u32) -> Option<ReadFacts> {
         let mut unseen = Vec::new(alloc);
         for _ in 0..ops {
             unseen.push(Vec::new(alloc)).ok()?;
         }
-        Some(KnownSources {
+        Some(ReadFacts {
             sources: vec![in alloc; None; ops as usize].ok()?,
             unseen,
             firsts: vec![in alloc; None; cells as usize].ok()?,
