@@ -75,5 +75,3 @@ module _ (state : TraceState) (mark : Option ℕ) (limit made : ℕ) (lengths : 
 -- what refutes the trace cut to them refutes the trace that the question is about
 pub asks_cycle_found : (state : TraceState) (mark : Option ℕ) (lengths : List ℕ) (reply : ReplyData) → asked_lengths state mark ≡ Ok lengths → FitsCycle (cut_to (trace_in state) lengths) reply → AsksCycle state mark reply
 asks_cycle_found state mark lengths reply is fits = about_asked state mark (λ t. FitsCycle t reply) lengths is fits
-
--- ---- what it makes of the set

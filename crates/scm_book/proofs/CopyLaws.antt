@@ -4,10 +4,6 @@ use Rattle.std.proofs.lemmas.List.{ext_get_or}
 use Rattle.scm_sequences.specs.declared.op.Op.{Op}
 use Rattle.scm_sequences.specs.Sequences.{operations}
 
--- ---- the operations of one process
-
--- ---- the processes one by one
-
 pub record IsCopiedTo (sequences : List (List Op)) (p : ℕ) (copy : List (List Op)) : Type 0 where
   pub as_many : length copy ≡ length sequences
   pub done : (k : ℕ) → k < p → operations copy k ≡ operations sequences k

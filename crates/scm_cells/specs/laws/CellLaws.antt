@@ -23,8 +23,6 @@ use Rattle.scm_cells.specs.Widths.{values_of}
 use Rattle.scm_cells.specs.Numbers.{value_of_number}
 use Rattle.scm_cells.specs.CellLists.{Declared, AreCells, HasValueInWidth, add_refusal, declared_cell, initials_of}
 
--- ---- the cell of a name
-
 -- ---- what cells hold at first
 
 pub length-initials_of : (cells : List Declared) → length (initials_of cells) ≡ length cells
