@@ -43,8 +43,8 @@ impl Model for Traces {
     ghost view = { λ t. t.traces.entries };
 }
 
-/// Whether the trace was put into the map. What comes back is let go in a function of its own, over whose many fields LLVM would
-/// take a sixth of the time of the whole program were it in the caller's.
+/// Whether the trace was put into the map. What comes back is dropped here: in the caller, LLVM took a fifth of the time in which
+/// it compiles the program.
 #[inline(never)]
 fn is_put(put: Result<Option<OpenTrace>, AllocFailed<(Name, OpenTrace)>>) -> bool
     ensures { result ≡ is_ok put }

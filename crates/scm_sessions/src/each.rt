@@ -83,7 +83,7 @@ fn answer_jobs<B: BookNaming + Send + Sync, G: Gate + Sync, T: Threads + Wait + 
 }
 
 /// Writes the replies of all groups, and tells what was found in them where the script was read whole.
-fn write_results<B: BookNaming, R: Read, W: Write>(
+fn write_replies<B: BookNaming, R: Read, W: Write>(
     reader: &Port<R>,
     writer: &mut Port<W>,
     jobs: &[Job<B>],
@@ -160,7 +160,7 @@ pub fn run_each<
     let book = SharedBook::<B>::new(alloc, token);
     let (mut jobs, mut names, passes) = begin_jobs(rt, alloc, &book, groups)?;
     let tallies = answer_jobs::<B, G, T>(rt, alloc, &book, &mut jobs, gate, workers);
-    write_results(reader, writer, jobs.as_slice(), found, findings)?;
+    write_replies(reader, writer, jobs.as_slice(), found, findings)?;
     let passes = gathered(jobs, &mut names, passes);
     Ok(Ended {
         audit: book.audit(passes, tallies),
