@@ -8,6 +8,13 @@ import os
 import shutil
 
 
+def found_at(path):
+    """When a folder of a check's work was changed, with its path; None where it is gone, or is another one."""
+    with contextlib.suppress(OSError):
+        return None if path.endswith("offers") else (os.path.getmtime(path), path)
+    return None
+
+
 class Seeds:
     """The last seed of each crate, beside what `rt ci` keeps, under a sum of the libraries below it: over others it is no use. In
     `proofs`, where it is given, stands what `rt ci` proved of each crate."""
@@ -19,22 +26,23 @@ class Seeds:
         libraries = repr((self.rt.kit_sum(), [self.rt.stamp_of(it, {}) for it in crate.deps]))
         return f"{self.folder}/{crate.name}.{hashlib.sha256(libraries.encode()).hexdigest()[:16]}"
 
-    def source(self, crate, to):
-        """What the seed of a crate is made from, and where it goes. The folder of a check's work has a name of the prover's, which
-        any seed tells."""
-        checked = [it for it in glob.glob(f"{self.folder}/*/antt-checked-*") if not it.endswith("offers")]
-        if self.proofs and checked and os.path.isdir(f"{self.proofs}/{crate.name}"):
-            return f"{self.proofs}/{crate.name}", f"{to}/{os.path.basename(max(checked, key=os.path.getmtime))}"
-        return self.path(crate), to
+    def sources(self, crate, to):
+        """What the seed of a crate may be made from, the better first, and where each goes. The folder of a check's work has a name
+        of the prover's, which the newest seed tells; where there is none yet, what was just proved is no use."""
+        kept = sorted(found for found in map(found_at, glob.glob(f"{self.folder}/*/antt-checked-*")) if found)
+        if self.proofs and kept:
+            yield f"{self.proofs}/{crate.name}", f"{to}/{os.path.basename(kept[-1][1])}"
+        yield self.path(crate), to
 
     def copy(self, crate, to):
         """Whether there was a seed of the crate, which now stands in this folder too."""
-        try:
-            self.rt.linked(*self.source(crate, to))
-            return True
-        except (OSError, shutil.Error):  # where another run puts its own seed there
-            shutil.rmtree(to, ignore_errors=True)
-            return False
+        for source, copy in self.sources(crate, to):
+            try:
+                self.rt.linked(source, copy)
+                return True
+            except (OSError, shutil.Error):  # there is none, or another run puts its own there
+                shutil.rmtree(to, ignore_errors=True)
+        return False
 
     def keep(self, crate, seed):
         """Moves a seed here, in place of those of the crate that were here."""

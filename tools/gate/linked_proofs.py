@@ -1,4 +1,4 @@
-"""What `rt ci` proves of each crate, kept by links as the seed of the crate's edits, which else is proved once more.
+"""What `rt ci` proves of crates, kept by links as the seed of their edits, which else is proved once more.
 
 The prover writes each part of a crate's proof, once it is done, into a folder of its own, which it removes at the end."""
 import contextlib
@@ -9,14 +9,15 @@ import threading
 
 PAUSE = 0.5  # seconds; the last parts that it misses are proved again
 CRATE = re.compile(r"Rattle-(\w+)-proofs\.")
+DONE = ".oantt"  # how the name of a part ends that is done
 
 
 class LinkedProofs:
-    """Links what is proved below the folder `at`, by crate, into folders of `to`, until it is told to stop."""
+    """Links what is proved of these crates below the folder `at` into folders of `to`, one a crate, until it is told to stop."""
 
-    def __init__(self, at, to):
-        self.at, self.to, self.linked, self.is_over = at, to, {}, threading.Event()
-        self.thread = threading.Thread(target=self.run)
+    def __init__(self, at, to, crates):
+        self.at, self.to, self.crates, self.linked, self.is_over = at, to, set(crates), {}, threading.Event()
+        self.thread = threading.Thread(target=self.run, daemon=True)
         self.thread.start()
 
     def run(self):
@@ -26,17 +27,18 @@ class LinkedProofs:
                     self.link(folder)
 
     def link(self, folder):
-        names = os.listdir(folder)
-        crate = next((it[1] for it in map(CRATE.match, names) if it), None)
-        if not crate:
+        crate = next((it[1] for it in map(CRATE.match, os.listdir(folder)) if it), None)
+        if crate not in self.crates:
             return
         linked = self.linked.setdefault(folder, set())
-        os.makedirs(f"{self.to}/{crate}", exist_ok=True)
-        for name in names:
-            if name not in linked:
-                linked.add(name)
-                with contextlib.suppress(FileExistsError):
-                    os.link(f"{folder}/{name}", f"{self.to}/{crate}/{name}")
+        for at, _, names in os.walk(folder):
+            to = at.replace(folder, f"{self.to}/{crate}")
+            os.makedirs(to, exist_ok=True)
+            for name in names:
+                if name.endswith(DONE) and (at, name) not in linked:
+                    with contextlib.suppress(FileExistsError):
+                        os.link(f"{at}/{name}", f"{to}/{name}")
+                    linked.add((at, name))
 
     def stop(self):
         self.is_over.set()
