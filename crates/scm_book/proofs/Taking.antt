@@ -13,7 +13,7 @@ use Rattle.scm_reach.specs.Kept.{Kept}
 use Rattle.scm_book.proofs.Entries.{trace_named-lookup, set_named-lookup}
 use Rattle.scm_book.specs.Machine.{Machine, TraceState, trace_named}
 use Rattle.scm_book.specs.Sets.{KeptTrace, InKept, machine_in, sets_in, set_named}
-use Rattle.scm_book.specs.Workers.{HoldsOfNone, ComesFirst, Takes}
+use Rattle.scm_book.specs.Workers.{HoldsOfNone, ComesFirst, TakesTasks}
 
 -- ---- the search for a trace
 
@@ -61,7 +61,7 @@ holds_of_found Holds inside traces name k is looked holds = subst (λ o. IsSomeA
 -- tasks were handed out of the set of one trace, or memory was refused and the set is the same
 pub takes_of : {T E : Type 0} (items : T → List Task) (r : Result T E) (machine : Machine) (sets new : List (List ℕ × Kept)) (n : ℕ) (name : List ℕ) (state : TraceState) (old kept : Kept) → trace_named machine name ≡ Some state
     → set_named sets name ≡ Some old → ComesFirst machine sets state old → kept.initials ≡ old.initials → new ≡ set_value (name_eq name) sets kept → IfOk r (λ given. Hands name state.sequences n old.members (items given) kept.members) → OnErr r (kept ≡ old)
-    → MatchResult r (λ given. Takes machine sets n (items given) new) (λ _. new ≡ sets)
+    → MatchResult r (λ given. TakesTasks machine sets n (items given) new) (λ _. new ≡ sets)
 takes_of items (Ok given) machine sets new n name state old kept there found first initials written hands same =
     inr (record { name = name; state = state; there = there; taken = record { before = old; after = kept; found = found; leads = (first, initials, hands); written = written } })
 takes_of items (Err e) machine sets new n name state old kept there found first initials written hands same = written ∙ ap (set_value (name_eq name) sets) same ∙ set_value_same (name_eq name) sets old found

@@ -38,9 +38,9 @@ IsAsWanted true reply = reply ≢ inconsistent
 IsAsWanted false reply = (situations : List Situated) → reply ≢ because situations
 
 -- the lengths at the mark, or with no mark the present ones
-abbrev pub lengths_asked : List (List ℕ) → List ℕ → Option ℕ → Result (List ℕ) Refusal
-lengths_asked marks present None = Ok present
-lengths_asked marks present (Some m) = mark_at marks m
+abbrev pub lengths_at_mark : List (List ℕ) → List ℕ → Option ℕ → Result (List ℕ) Refusal
+lengths_at_mark marks present None = Ok present
+lengths_at_mark marks present (Some m) = mark_at marks m
 
 -- what `ask` or `why` replies, as it is wanted
 abbrev pub AsksFor : Bool → TraceState → Option ℕ → ReplyData → Type 0

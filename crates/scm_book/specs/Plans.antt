@@ -32,10 +32,10 @@ abbrev pub IsKnown : Machine → CallData → Option ReplyData → Type 0
 IsKnown machine call known = IfSome known (λ reply. IsKnownReply machine call reply)
 
 -- the reply that a plan carries, if it does
-abbrev pub known_in : Plan → Option ReplyData
-known_in (Ready known) = option_map reply_data known
-known_in Waits = None
-known_in (Long loan) = None
+abbrev pub reply_in : Plan → Option ReplyData
+reply_in (Ready known) = option_map reply_data known
+reply_in Waits = None
+reply_in (Long loan) = None
 
 -- the loan that it carries, if it does
 abbrev pub loan_in : Plan → Option Loaned

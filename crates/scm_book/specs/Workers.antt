@@ -50,8 +50,8 @@ pub record TakesOfOne (machine : Machine) (old : List (List ℕ × Kept)) (n : �
   pub taken : Becomes old name (λ a b. ComesFirst machine old state a × (b.initials ≡ a.initials) × Hands name state.sequences n a.members tasks b.members) new
 
 -- at most n tasks were taken, and none only where n is 0 or there is nothing to do
-abbrev pub Takes : Machine → List (List ℕ × Kept) → ℕ → List Task → List (List ℕ × Kept) → Type 0
-Takes machine old n tasks new =
+abbrev pub TakesTasks : Machine → List (List ℕ × Kept) → ℕ → List Task → List (List ℕ × Kept) → Type 0
+TakesTasks machine old n tasks new =
     ((tasks ≡ []) × (new ≡ old) × (n ≢ 0 → OffersNothing machine old)) ⊎ TakesOfOne machine old n tasks new
 
 -- these tasks are given; or None: memory was refused, and nothing was handed out
@@ -60,7 +60,7 @@ pub record IsTaking (old : BookState) (n : ℕ) (given : Option (List Task)) (ne
   pub steps : new.steps ≡ old.steps
   pub takes :
       MatchOption given ((new.sets ≡ old.sets) × (new.results ≡ old.results))
-      (λ tasks. Takes old.machine old.sets n tasks new.sets × (new.results ≡ with_taken old.results (length tasks)))
+      (λ tasks. TakesTasks old.machine old.sets n tasks new.sets × (new.results ≡ with_taken old.results (length tasks)))
 
 -- ---- delivering
 

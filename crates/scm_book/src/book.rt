@@ -9,7 +9,7 @@ ghost use Rattle.scm_book.specs.Sets.{HasRoom, HasRoomFor, HoldsFor, LeavesSets}
 ghost use Rattle.scm_results.specs.Totals.{capped, none_counted};
 ghost use Rattle.scm_book.specs.Workers.{IsTaking, IsDelivery, OffersNothingNew};
 ghost use Rattle.scm_book.specs.Loans.{IsLending, IsLendingForWork, IsTakingBack};
-ghost use Rattle.scm_book.specs.Plans.{IsKnown, known_in, loan_in};
+ghost use Rattle.scm_book.specs.Plans.{IsKnown, reply_in, loan_in};
 ghost use Rattle.scm_book.specs.Changes.{tells_of_change};
 ghost use Rattle.scm_book.specs.Journal.{count_of as count_in, GivesKept, IsCall, IsLegalBook};
 
@@ -156,7 +156,7 @@ impl Book {
     /// Neither machine nor journal changes.
     pub fn plan(&mut self, call: &Call) -> Plan
         ensures lends { IsLending self.old (call_data call.now) (loan_in result) self.new }
-        ensures known { IsKnown self.new.machine (call_data call.now) (known_in result) }
+        ensures known { IsKnown self.new.machine (call_data call.now) (reply_in result) }
         ensures legal { IsLegalBook self.new }
     {
         match call {

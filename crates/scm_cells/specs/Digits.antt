@@ -22,8 +22,8 @@ abbrev pub with_digit : Base → ℕ → ℕ → ℕ
 with_digit base n b = n * radix_of base + digit_value_in base b
 
 -- the number that one or more digits stand for
-abbrev pub number_in : Base → List ℕ → Option ℕ
-number_in base word =
+abbrev pub number_of_digits : Base → List ℕ → Option ℕ
+number_of_digits base word =
     if nat_lt 0 (length word) && list_all (is_digit_of base) word then Some (fold (with_digit base) 0 word) else None
 
 -- the number, where 64 bits hold it

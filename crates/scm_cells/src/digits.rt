@@ -1,6 +1,6 @@
 //! Words of digits.
 ghost use Rattle.std.specs.Prelude.{◌≡◌, ℕ, ◌+◌, ◌*◌, IsTrue, SomeIff, option_map};
-ghost use Rattle.scm_cells.specs.Digits.{radix_of, is_digit_of, digit_value_in, number_in, held};
+ghost use Rattle.scm_cells.specs.Digits.{radix_of, is_digit_of, digit_value_in, number_of_digits, held};
 
 /// The base of a number's digits.
 #[derive(Clone, Copy)]
@@ -46,7 +46,7 @@ impl Base {
 
 /// The number that one or more digits stand for, or `None` where the word isn't that. Its length has no limit.
 pub fn read_digits(word: &[u8], base: Base) -> Option<Magnitude>
-    ensures { result ≡ option_map held (number_in base word.now) }
+    ensures { result ≡ option_map held (number_of_digits base word.now) }
 {
     if word.is_empty() {
         return None;

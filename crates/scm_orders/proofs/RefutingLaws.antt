@@ -15,7 +15,7 @@ use Rattle.scm_orders.specs.Moments.{Says, AssumptionsHold}
 use Rattle.scm_orders.specs.Blocks.{IsAssumed, opened, IsBehind, IsVisible}
 use Rattle.scm_orders.specs.Lemmas.{Assumes, LeavesOne, IsLemma}
 use Rattle.scm_orders.specs.Following.{IsOf, FollowsBy, Follows}
-use Rattle.scm_orders.specs.Refuting.{hints_of, AllFollow, IsEnd, Refutes}
+use Rattle.scm_orders.specs.Refuting.{hints_of, AllFollow, IsEnd, OrdersRefute}
 use Rattle.scm_orders.proofs.PlaceLaws.{none_is}
 use Rattle.scm_orders.proofs.RuleLaws.{Holds, AreKnown, drawn, lemma_rule, contradicts}
 
@@ -218,5 +218,5 @@ module _ (t : Trace) (lines : List Line) (hints s : List ℕ) (follow : AllFollo
   no_end None is ends = absurd ends
   no_end (Some line) is ends = contradicts t s schedule line.fact (holds_at (length lines - 1) line is (subst (AssumptionsHold t s lines) (sym ends.outside) none_outside)) ends.contradicts
 
-pub none_left : (t : Trace) (lines : List Line) (hints : List ℕ) → Refutes t lines hints → IsConsistent t → ⊥
+pub none_left : (t : Trace) (lines : List Line) (hints : List ℕ) → OrdersRefute t lines hints → IsConsistent t → ⊥
 none_left t lines hints refutes consistent = no_end t lines hints consistent.schedule refutes.follow consistent.is_schedule (slice_get lines (length lines - 1)) refl refutes.ends

@@ -10,7 +10,7 @@ IsAssumed Assumed = ⊤
 IsAssumed _ = ⊥
 
 -- the line leaves its block open
-pub record IsOpen (line : Line) : Type 0 where
+pub record LeavesBlockOpen (line : Line) : Type 0 where
   pub inside : IsSome line.block
   pub goes_on : IsContradiction line.fact → ⊥
 
@@ -27,7 +27,7 @@ pub record GoesOn (before line : Line) : Type 0 where
 -- line k stands where it is to stand, behind this line
 abbrev pub IsBehind : ℕ → Option Line → Line → Type 0
 IsBehind k None line = line.block ≡ opened k line.rule
-IsBehind k (Some before) line = (IsOpen before × GoesOn before line) ⊎ ((IsOpen before → ⊥) × line.block ≡ opened k line.rule)
+IsBehind k (Some before) line = (LeavesBlockOpen before × GoesOn before line) ⊎ ((LeavesBlockOpen before → ⊥) × line.block ≡ opened k line.rule)
 
 -- the line behind the earlier ones does
 abbrev pub IsPlaced : List Line → Line → Type 0

@@ -111,13 +111,13 @@ IsOf t (Unseen write read) = AreOperations t write read
 IsOf t (UnseenFirst read) = IsSome (operation_at t read)
 
 -- the hint is the number of a line that can be named in this block
-abbrev pub IsNamed : List Line → Option ℕ → ℕ → Type 0
-IsNamed earlier block hint = IsSomeAnd (slice_get earlier hint) (λ line. IsVisible line.block block)
+abbrev pub CanBeNamed : List Line → Option ℕ → ℕ → Type 0
+CanBeNamed earlier block hint = IsSomeAnd (slice_get earlier hint) (λ line. IsVisible line.block block)
 
 -- the line follows from the trace and the earlier lines, with these hints
 pub record Follows (t : Trace) (earlier : List Line) (hints : List ℕ) (line : Line) : Type 0 where
   pub placed : IsPlaced earlier line
-  pub named : All (IsNamed earlier line.block) hints
+  pub named : All (CanBeNamed earlier line.block) hints
   pub few : HasFewHints line.rule line.count
   pub operations : IsOf t line.fact
   pub rule : FollowsBy t earlier hints line.fact line.rule

@@ -24,6 +24,6 @@ pub record IsEnd (line : Line) : Type 0 where
   pub contradicts : IsContradiction line.fact
 
 -- each line follows, and the last one is such
-pub record Refutes (t : Trace) (lines : List Line) (hints : List ℕ) : Type 0 where
+pub record OrdersRefute (t : Trace) (lines : List Line) (hints : List ℕ) : Type 0 where
   pub follow : AllFollow t lines hints
   pub ends : IsSomeAnd (slice_get lines (length lines - 1)) IsEnd

@@ -1,6 +1,6 @@
 //! Blocks of lines.
 ghost use Rattle.std.specs.Prelude.{◌≡◌, ◌↔◌, IsTrue};
-ghost use Rattle.scm_orders.specs.Blocks.{IsAssumed, IsOpen, GoesOn, IsPlaced, IsVisible, opened};
+ghost use Rattle.scm_orders.specs.Blocks.{IsAssumed, LeavesBlockOpen, GoesOn, IsPlaced, IsVisible, opened};
 
 use crate::{Line, Rule};
 
@@ -30,7 +30,7 @@ pub(crate) fn is_placed(earlier: &[Line], line: Line) -> bool
 
 // Whether the line leaves its block open.
 fn is_open(line: Line) -> bool
-    ensures { IsTrue result ↔ IsOpen line }
+    ensures { IsTrue result ↔ LeavesBlockOpen line }
 {
     line.block.is_some() && !line.fact.is_contradiction()
 }

@@ -1,7 +1,7 @@
 //! Whether a line follows from the trace and from earlier lines.
 ghost use Rattle.std.specs.Prelude.{◌↔◌, All, IsTrue, IsSomeAnd};
 ghost use Rattle.scm_orders.specs.Facts.{fact_at as known_at};
-ghost use Rattle.scm_orders.specs.Following.{Follows, IsNamed, FollowsBy, IsDrawn, HasFewHints, IsOf, AreOperations, IsOrdered, IsHiddenBy, IsHidden, IsBeforeAll, IsWriteBefore, HasReader, IsAfterSource, IsSource};
+ghost use Rattle.scm_orders.specs.Following.{Follows, CanBeNamed, FollowsBy, IsDrawn, HasFewHints, IsOf, AreOperations, IsOrdered, IsHiddenBy, IsHidden, IsBeforeAll, IsWriteBefore, HasReader, IsAfterSource, IsSource};
 
 use crate::blocks::{is_placed, is_visible};
 use crate::candidates::{Left, leaves, writes_what_is_read};
@@ -23,14 +23,14 @@ pub(crate) fn follows(on: &Basis<'_>, line: Line) -> bool
 
 // Whether the hints are numbers of lines that can be named in this block.
 fn are_named(earlier: &[Line], block: Option<u32>, hints: &[u32]) -> bool
-    ensures { IsTrue result ↔ All (IsNamed earlier.now block) hints.now }
+    ensures { IsTrue result ↔ All (CanBeNamed earlier.now block) hints.now }
 {
     hints.iter().all(|hint| is_named(earlier, block, *hint))
 }
 
 // Whether this hint is the number of a line that can be named in this block.
 fn is_named(earlier: &[Line], block: Option<u32>, hint: u32) -> bool
-    ensures { IsTrue result ↔ IsNamed earlier.now block hint }
+    ensures { IsTrue result ↔ CanBeNamed earlier.now block hint }
 {
     match earlier.get(hint as usize) {
         Some(line) => is_visible(line.block, block),

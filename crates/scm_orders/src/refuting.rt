@@ -2,7 +2,7 @@
 ghost use Rattle.std.specs.Prelude.{◌<◌, ◌↔◌, IsTrue, length};
 ghost use Rattle.scm_sequences.specs.Traces.{cut_to, trace_of};
 ghost use Rattle.scm_sequences.specs.Fronts.{IsConsistent};
-ghost use Rattle.scm_orders.specs.Refuting.{LineFollows, AllFollow, IsEnd, Refutes};
+ghost use Rattle.scm_orders.specs.Refuting.{LineFollows, AllFollow, IsEnd, OrdersRefute};
 
 use crate::cut_trace::CutTrace;
 use crate::following::follows;
@@ -24,7 +24,7 @@ pub fn orders_refute(
     lengths: &Lengths,
     derivation: &Derivation,
 ) -> bool
-    ensures exact { IsTrue result ↔ Refutes (cut_to (trace_of initials.now sequences.now) lengths.now) derivation.now.lines.items derivation.now.hints.items }
+    ensures exact { IsTrue result ↔ OrdersRefute (cut_to (trace_of initials.now sequences.now) lengths.now) derivation.now.lines.items derivation.now.hints.items }
     ensures none { IsTrue result → IsConsistent (cut_to (trace_of initials.now sequences.now) lengths.now) → ⊥ }
 {
     let trace = CutTrace::new(initials, sequences, lengths);
@@ -33,7 +33,7 @@ pub fn orders_refute(
 
 // Whether the lines with these hints refute the trace.
 fn refute(trace: &CutTrace<'_>, lines: &[Line], hints: &[u32]) -> bool
-    ensures { IsTrue result ↔ Refutes trace.now lines.now hints.now }
+    ensures { IsTrue result ↔ OrdersRefute trace.now lines.now hints.now }
 {
     match lines.last() {
         Some(line) => is_end(*line) && all_follow(trace, lines, hints),

@@ -1,7 +1,7 @@
 //! Questions about an open trace.
 ghost use Rattle.std.specs.Prelude.{◌≡◌, ◌+◌, ◌<◌, ◌^◌, length, None, Ok, Err, IfOk, IfErr, MatchResult};
 ghost use Rattle.scm_sequences.specs.Refusals.{Refuses};
-ghost use Rattle.scm_book.specs.Asking.{lengths_asked, AsksFor};
+ghost use Rattle.scm_book.specs.Asking.{lengths_at_mark, AsksFor};
 ghost use Rattle.scm_book.specs.Calls.{reply_data, answer_data};
 ghost use Rattle.scm_book.specs.Refusals.{question_cause};
 ghost use Rattle.scm_book.specs.Sets.{most_steps, SearchesAt};
@@ -23,7 +23,7 @@ pub(super) fn lengths_at<'a>(
     present: &'a Lengths,
     mark: Option<u64>,
 ) -> Result<&'a Lengths, Refusal>
-    ensures { MatchResult result (λ lengths. lengths_asked marks.now present.now mark ≡ Ok lengths.now) (λ refusal. lengths_asked marks.now present.now mark ≡ Err refusal) }
+    ensures { MatchResult result (λ lengths. lengths_at_mark marks.now present.now mark ≡ Ok lengths.now) (λ refusal. lengths_at_mark marks.now present.now mark ≡ Err refusal) }
 {
     match mark {
         Some(mark) => marks.get(mark),

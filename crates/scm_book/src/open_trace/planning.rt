@@ -2,7 +2,7 @@
 ghost use Rattle.std.specs.Prelude.{◌≡◌, IfOk, IfSome, MatchOption, None};
 ghost use Rattle.scm_book.specs.Calls.{reply_data};
 ghost use Rattle.scm_book.specs.Loans.{Lends};
-ghost use Rattle.scm_book.specs.Plans.{IsExplained, known_in, loan_in};
+ghost use Rattle.scm_book.specs.Plans.{IsExplained, reply_in, loan_in};
 
 use super::asking::lengths_at;
 use super::{OpenTrace, Purpose};
@@ -18,7 +18,7 @@ impl OpenTrace {
     pub(crate) fn plan(&mut self, alloc: Global, name: Name, mark: Option<u64>) -> Plan
         ensures state { self.new.state ≡ self.old.state }
         ensures lends { MatchOption (loan_in result) (self.new.set ≡ self.old.set) (λ loan. Lends name mark self.old.state self.old.set loan self.new.set) }
-        ensures known { IfSome (known_in result) (λ reply. IsExplained self.old.state mark reply) }
+        ensures known { IfSome (reply_in result) (λ reply. IsExplained self.old.state mark reply) }
     {
         match self.known_reply(alloc, mark) {
             Ok(None) => self.plan_search(alloc, name, mark),
@@ -53,7 +53,7 @@ impl OpenTrace {
     fn plan_search(&mut self, alloc: Global, name: Name, mark: Option<u64>) -> Plan
         ensures state { self.new.state ≡ self.old.state }
         ensures lends { MatchOption (loan_in result) (self.new.set ≡ self.old.set) (λ loan. Lends name mark self.old.state self.old.set loan self.new.set) }
-        ensures known { known_in result ≡ None }
+        ensures known { reply_in result ≡ None }
     {
         if !self.loan_state.is_here() {
             return Plan::Waits;

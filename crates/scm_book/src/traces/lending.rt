@@ -2,7 +2,7 @@
 ghost use Rattle.std.specs.Prelude.{◌≡◌, None, IfSome, MatchOption};
 ghost use Rattle.scm_book.specs.Sets.{machine_in, sets_in};
 ghost use Rattle.scm_book.specs.Loans.{IsLentOf, IsTakenBack};
-ghost use Rattle.scm_book.specs.Plans.{IsExplained, known_in, loan_in};
+ghost use Rattle.scm_book.specs.Plans.{IsExplained, reply_in, loan_in};
 ghost use Rattle.scm_book.specs.Steps.{InTrace};
 
 use super::Traces;
@@ -15,7 +15,7 @@ impl Traces {
     pub(crate) fn plan(&mut self, name: &Name, mark: Option<u64>) -> Plan
         ensures machine { machine_in self.new ≡ machine_in self.old }
         ensures lends { MatchOption (loan_in result) (sets_in self.new ≡ sets_in self.old) (λ loan. IsLentOf (machine_in self.old) (sets_in self.old) name.now mark loan (sets_in self.new)) }
-        ensures known { IfSome (known_in result) (λ reply. InTrace (machine_in self.new) name.now (λ state. IsExplained state mark reply)) }
+        ensures known { IfSome (reply_in result) (λ reply. InTrace (machine_in self.new) name.now (λ state. IsExplained state mark reply)) }
     {
         let Some(trace) = self.traces.get_mut(name) else {
             return Plan::Ready(None);

@@ -1,7 +1,7 @@
 //! What workers take and deliver.
 ghost use Rattle.std.specs.Prelude.{◌≡◌, ◌↔◌, false, IfSome, MatchOption, MatchResult};
 ghost use Rattle.scm_book.specs.Sets.{machine_in, sets_in, InKept};
-ghost use Rattle.scm_book.specs.Workers.{Offers, OffersNew, OffersNothing, OffersNothingNew, ComesFirst, Takes, Meets, Delivers};
+ghost use Rattle.scm_book.specs.Workers.{Offers, OffersNew, OffersNothing, OffersNothingNew, ComesFirst, TakesTasks, Meets, Delivers};
 
 use super::Traces;
 use scm_cells::Name;
@@ -15,7 +15,7 @@ impl Traces {
     /// Unchanged where memory is refused.
     pub(crate) fn take(&mut self, n: usize) -> Result<Vec<Task>, NoMemory>
         ensures machine { machine_in self.new ≡ machine_in self.old }
-        ensures takes { MatchResult result (λ tasks. Takes (machine_in self.old) (sets_in self.old) n tasks.items (sets_in self.new)) (λ _. sets_in self.new ≡ sets_in self.old) }
+        ensures takes { MatchResult result (λ tasks. TakesTasks (machine_in self.old) (sets_in self.old) n tasks.items (sets_in self.new)) (λ _. sets_in self.new ≡ sets_in self.old) }
     {
         if n == 0 {
             return Ok(Vec::new(self.alloc));

@@ -3,7 +3,7 @@ use Rattle.std.specs.Option.{option_copied_mut}
 use Rattle.std.specs.Map.{lookup}
 use Rattle.scm_cells.specs.Names.{name_eq}
 use Rattle.scm_book.specs.Machine.{Machine}
-use Rattle.scm_book.specs.Plans.{IsExplained, known_in, loan_in}
+use Rattle.scm_book.specs.Plans.{IsExplained, reply_in, loan_in}
 use Rattle.scm_book.specs.Sets.{machine_in}
 use Rattle.scm_book.specs.Steps.{InTrace}
 use Rattle.scm_book.proofs.Entries.{trace_named-lookup, set_named-lookup, machine-same, machine-set_same, sets-same, sets-set_value}
@@ -34,7 +34,7 @@ returns-clause-lends c =
 pub returns-clause-known : goal.returns-clause-known
 returns-clause-known c =
     let looked : Some c.in-Some.trace.now ≡ lookup (name_eq c.args.name.now) c.self.inside.traces.entries = sym (ap option_copied_mut c.in-Some.is) ∙ c.get_mut.ensures.value in
-    subst (λ (m : Machine). IfSome (known_in c.plan.result) (λ reply. InTrace m c.args.name.now (λ state. IsExplained state c.args.mark reply)))
+    subst (λ (m : Machine). IfSome (reply_in c.plan.result) (λ reply. InTrace m c.args.name.now (λ state. IsExplained state c.args.mark reply)))
     (sym (machine-set_same c.args.self.now c.self.inside.traces.entries c.self.view_is c.args.name.now c.in-Some.trace.now c.plan.new.self _ looked (c.get_mut.follows.holds c.plan.new.self).0 c.plan.ensures.state))
-    (known_of (machine_in c.args.self.now) c.args.name.now c.args.mark c.in-Some.trace.now.state (known_in c.plan.result)
+    (known_of (machine_in c.args.self.now) c.args.name.now c.args.mark c.in-Some.trace.now.state (reply_in c.plan.result)
     (trace_named-lookup c.args.self.now c.self.inside.traces.entries c.self.view_is c.args.name.now (Some c.in-Some.trace.now) looked) c.plan.ensures.known)
