@@ -58,14 +58,14 @@ abbrev pub HoldsReply : State → List ℕ → ReplyData → Type 0
 HoldsReply state session reply = IsSomeAnd state.answer (λ answer. (answer.name ≡ Some session) × (reply_data answer.reply ≡ reply))
 
 -- nobody has entered, no trace is open, nothing was answered, and no name has a number
-abbrev pub IsNew : State → Type 0
-IsNew state =
+abbrev pub IsNewMonitor : State → Type 0
+IsNewMonitor state =
     (state.sessions.names ≡ []) × (state.sessions.book.machine ≡ empty_machine) × (state.answer ≡ None) × (state.names.items ≡ [])
 
 -- a call of the session of this name leads from one monitor to the other one, whose last answer is the reply, of which this is the
 -- number
-abbrev pub MakesCall : State → List ℕ → CallData → ℕ → State → Type 0
-MakesCall before session call code after =
+abbrev pub MakesCallWithCode : State → List ℕ → CallData → ℕ → State → Type 0
+MakesCallWithCode before session call code after =
     (reply : ReplyData) × Answers AnswersCall before.sessions (good session call) reply after.sessions
     × HoldsReply after session reply × (code ≡ reply_code reply) × (after.names ≡ before.names)
 
@@ -82,7 +82,7 @@ OpensAt before session trace procs budget cells code after =
     MatchOption (name_at before session) (IsBadNumber before code after)
     (λ s. MatchOption (name_at before trace) (IsBadNumber before code after)
     (λ t. RefusesMemory before s code after ⊎ MatchOption (declarations_of before.names.items cells) (IsBadNumber before code after)
-    (λ decls. MakesCall before s (opens t procs budget decls) code after)))
+    (λ decls. MakesCallWithCode before s (opens t procs budget decls) code after)))
 
 -- the session of one number calls about the trace of the other one
 abbrev pub CallsAt : State → ℕ → ℕ → ℕ → ℕ → ℕ → State → Type 0
@@ -90,7 +90,7 @@ CallsAt before session trace kind number code after =
     MatchOption (name_at before session) (IsBadNumber before code after)
     (λ s. MatchOption (name_at before trace) (IsBadNumber before code after)
     (λ t. MatchOption (call_of_kind kind t number) (IsBadNumber before code after)
-    (λ call. MakesCall before s call code after)))
+    (λ call. MakesCallWithCode before s call code after)))
 
 -- it reports an access of a process to the cell of a number
 abbrev pub ReportsAt : State → ℕ → ℕ → ℕ → ℕ → ℕ → ℕ → ℕ → ℕ → State → Type 0
@@ -99,4 +99,4 @@ ReportsAt before session trace process kind cell first second code after =
     (λ s. MatchOption (name_at before trace) (IsBadNumber before code after)
     (λ t. MatchOption (name_at before cell) (IsBadNumber before code after)
     (λ c. MatchOption (access_of_kind kind c first second) (IsBadNumber before code after)
-    (λ access. MakesCall before s (reports t process access) code after))))
+    (λ access. MakesCallWithCode before s (reports t process access) code after))))

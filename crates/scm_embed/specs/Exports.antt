@@ -2,7 +2,7 @@
 use Rattle.std.specs.Prelude.{ℕ, ◌≡◌, ◌⊎◌, ◌<◌, ◌≤◌, List, ◌++◌, length, drop, Option, None, Some, MatchOption, IsSomeAnd}
 use Rattle.scm_embed.specs.declared.codes.TheConstants.{DONE, NO_ROOM, NO_MEMORY, CLOSED}
 use Rattle.scm_embed.specs.declared.state.State.{State}
-use Rattle.scm_embed.specs.Calls.{IsNew}
+use Rattle.scm_embed.specs.Calls.{IsNewMonitor}
 use Rattle.scm_sessions.specs.Asking.{asked_by}
 use Rattle.scm_sessions.specs.Lines.{line_of}
 use Rattle.scm_sessions.specs.Script.{AnswersCall}
@@ -17,12 +17,12 @@ OnHeld old code new Leads =
 -- a monitor is made, or memory is refused; where one is held, the answer is CLOSED, and it stays
 abbrev pub MakesHeld : Option State → ℕ → Option State → Type 0
 MakesHeld old code new =
-    MatchOption old (((code ≡ DONE) × IsSomeAnd new IsNew) ⊎ ((code ≡ NO_MEMORY) × (new ≡ None)))
+    MatchOption old (((code ≡ DONE) × IsSomeAnd new IsNewMonitor) ⊎ ((code ≡ NO_MEMORY) × (new ≡ None)))
     (λ before. (code ≡ CLOSED) × (new ≡ Some before))
 
 -- a line is answered, and the answer is held
-abbrev pub AnswersLine : State → List ℕ → State → Type 0
-AnswersLine before line after =
+abbrev pub HoldsAnswer : State → List ℕ → State → Type 0
+HoldsAnswer before line after =
     AnswersWith AnswersCall before.sessions (asked_by (line_of line)) after.answer after.sessions × (after.names ≡ before.names)
 
 -- the sessions, the book, the last answer and the names stay

@@ -9,8 +9,8 @@ abbrev pub place_of : List (List ℕ) → List ℕ → Option ℕ
 place_of names name = position (λ other. name_eq other name) names
 
 -- a name that has a number keeps it, and any other gets the next one, unless memory is refused
-abbrev pub Numbers : List (List ℕ) → List ℕ → Result ℕ NoMemory → List (List ℕ) → Type 0
-Numbers before name result after =
+abbrev pub GivesNumber : List (List ℕ) → List ℕ → Result ℕ NoMemory → List (List ℕ) → Type 0
+GivesNumber before name result after =
     MatchOption (place_of before name)
     (IfOk result (λ number. (number ≡ length before) × (after ≡ before ++ name ∷ [])) × OnErr result (after ≡ before))
     (λ place. (result ≡ Ok place) × (after ≡ before))

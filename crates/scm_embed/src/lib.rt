@@ -13,7 +13,7 @@ mod state;
 ghost use Rattle.std.specs.Prelude.{◌≡◌, ◌≢◌, None, Some, is_some};
 ghost use Rattle.std.specs.Option.{option_map};
 ghost use Rattle.scm_embed.specs.Calls.{CallsAt, OpensAt, ReportsAt};
-ghost use Rattle.scm_embed.specs.Exports.{AnswersLine, GivesText, KeepsAll, MakesHeld, OnHeld};
+ghost use Rattle.scm_embed.specs.Exports.{HoldsAnswer, GivesText, KeepsAll, MakesHeld, OnHeld};
 ghost use Rattle.scm_embed.specs.Reading.{CountsAt, NamesAt, ReadsAt};
 
 use codes::{CLOSED, DONE, NO_MEMORY, NO_ROOM};
@@ -112,7 +112,7 @@ pub extern "C" fn scm_line(
     needed: &mut usize,
 ) -> u32
     ensures answered { OnHeld m.old.slot.value result m.new.slot.value (λ before after.
-        AnswersLine before line.now after × GivesText after out.old out.new needed.old needed.new result) }
+        HoldsAnswer before line.now after × GivesText after out.old out.new needed.old needed.new result) }
     ensures closed { m.old.slot.value ≡ None → (out.new ≡ out.old) × (needed.new ≡ needed.old) }
 {
     let Some(mut state) = m.take(alloc) else {

@@ -1,6 +1,6 @@
 //! The names that numbers stand for.
 ghost use Rattle.std.specs.Prelude.{◌≡◌};
-ghost use Rattle.scm_embed.specs.Names.{place_of, Numbers};
+ghost use Rattle.scm_embed.specs.Names.{place_of, GivesNumber};
 
 use scm_cells::Name;
 use scm_sequences::NoMemory;
@@ -14,7 +14,7 @@ fn place_of(names: &[Name], name: Name) -> Option<usize>
 
 /// The number of a name among these, where it is put last if it is new.
 pub(crate) fn number_in(names: &mut Vec<Name>, name: Name) -> Result<usize, NoMemory>
-    ensures { Numbers names.old.items name result names.new.items }
+    ensures { GivesNumber names.old.items name result names.new.items }
 {
     if let Some(place) = place_of(names, name) {
         return Ok(place);

@@ -1,6 +1,6 @@
 //! Cells as C declares them.
 ghost use Rattle.std.specs.Prelude.{◌≡◌, option_map, IfOk};
-ghost use Rattle.scm_embed.specs.Opening.{width_of_bits, initial_of, declaration_of, all_declarations, declarations_of};
+ghost use Rattle.scm_embed.specs.Opening.{width_of_bits, initial_of_cell, declaration_of_cell, all_declarations, declarations_of};
 
 use scm_book::Decl;
 use scm_cells::{Initial, Name, Num, Width};
@@ -31,7 +31,7 @@ fn width_of(bits: u32) -> Option<Width>
 impl Cell {
     /// What it holds at first.
     fn initial(&self) -> Initial
-        ensures { result ≡ initial_of self.now }
+        ensures { result ≡ initial_of_cell self.now }
     {
         if self.is_unset == 0 {
             Initial::Given(Num::Plain(self.initial))
@@ -42,7 +42,7 @@ impl Cell {
 
     /// Its declaration, where these are the names that numbers stand for.
     fn declaration(&self, names: &[Name]) -> Option<Decl>
-        ensures { result ≡ declaration_of names.now self.now }
+        ensures { result ≡ declaration_of_cell names.now self.now }
     {
         Some(Decl {
             name: *names.get(self.name)?,

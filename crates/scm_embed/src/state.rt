@@ -1,7 +1,7 @@
 //! What a handle stands for.
 ghost use Rattle.std.specs.Prelude.{◌≡◌, ◌≢◌, OnOk, option_copied};
 ghost use Rattle.scm_book.specs.Calls.{call_data, reply_data};
-ghost use Rattle.scm_embed.specs.Calls.{IsNew, HoldsReply, MakesCall, OpensAt, CallsAt, ReportsAt};
+ghost use Rattle.scm_embed.specs.Calls.{IsNewMonitor, HoldsReply, MakesCallWithCode, OpensAt, CallsAt, ReportsAt};
 ghost use Rattle.scm_embed.specs.Codes.{reply_code};
 ghost use Rattle.scm_embed.specs.Reading.{NamesAt, CountsAt, ReadsAt, TellsPiece};
 ghost use Rattle.scm_sessions.specs.Lines.{line_given, line_of};
@@ -47,7 +47,7 @@ fn cut(line: &[u8]) -> Option<&[u8]>
 impl State {
     /// No session has entered, and no trace is open.
     pub(crate) fn new(alloc: Global) -> State
-        ensures { IsNew result }
+        ensures { IsNewMonitor result }
     {
         State {
             alloc,
@@ -119,7 +119,7 @@ impl State {
 
     /// Makes a call of a session, and keeps the answer.
     fn make(&mut self, session: Name, call: Call) -> u32
-        ensures { MakesCall self.old session (call_data call) result self.new }
+        ensures { MakesCallWithCode self.old session (call_data call) result self.new }
     {
         let reply = self.sessions.call(session, call);
         self.keep(session, reply)

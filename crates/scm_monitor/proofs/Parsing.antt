@@ -6,7 +6,7 @@ use Rattle.clap.specs.Faults.{fault_of, walk_fault}
 use Rattle.clap.specs.Kinds.{Kinds}
 use Rattle.clap.specs.declared.error.kind.ErrorKind.TheVariants as kind
 use Rattle.clap.proofs.OnLiterals.{clap_on_literals}
-use Rattle.scm_monitor.specs.CommandLine.{ComesFirst, IsHelp, IsVersion, command_line, options_of}
+use Rattle.scm_monitor.specs.CommandLine.{WordComesFirst, IsHelp, IsVersion, command_line, options_of}
 
 cons≢nil : {X : Type 0} (x : X) (xs : List X) → x ∷ xs ≡ [] → ⊥
 cons≢nil {X = X} x xs e = true≢false (ap (λ (ys : List X). is_some (slice_get ys 0)) e)
@@ -57,22 +57,22 @@ of_second : {a rest : List Text} {word other : Text} {k : Kinds} → a ≡ journ
     → fault_of command_line (journal_then other rest) ≡ k → fault_of command_line a ≡ k
 of_second {rest = rest} e is f = of_words (e ∙ ap (λ (w : Text). journal_then w rest) is) f
 
-pub help_shown : (words : List Text) → ComesFirst IsHelp words → fault_of command_line words ≡ kind.DisplayHelp ∷ []
+pub help_shown : (words : List Text) → WordComesFirst IsHelp words → fault_of command_line words ≡ kind.DisplayHelp ∷ []
 help_shown words (word, rest, inl is, inl e) = of_first e is (help_is_shown rest)
 help_shown words (word, rest, inl is, inr e) = of_second e is (help_is_shown_after rest)
 help_shown words (word, rest, inr is, inl e) = of_first e is (h_is_shown rest)
 help_shown words (word, rest, inr is, inr e) = of_second e is (h_is_shown_after rest)
 
-pub version_shown : (words : List Text) → ComesFirst IsVersion words → fault_of command_line words ≡ kind.DisplayVersion ∷ []
+pub version_shown : (words : List Text) → WordComesFirst IsVersion words → fault_of command_line words ≡ kind.DisplayVersion ∷ []
 version_shown words (word, rest, inl is, inl e) = of_first e is (version_is_shown rest)
 version_shown words (word, rest, inl is, inr e) = of_second e is (version_is_shown_after rest)
 version_shown words (word, rest, inr is, inl e) = of_first e is (v_is_shown rest)
 version_shown words (word, rest, inr is, inr e) = of_second e is (v_is_shown_after rest)
 
-pub help_fails : (words : List Text) → ComesFirst IsHelp words → fault_of command_line words ≡ [] → ⊥
+pub help_fails : (words : List Text) → WordComesFirst IsHelp words → fault_of command_line words ≡ [] → ⊥
 help_fails words first none = cons≢nil kind.DisplayHelp [] (sym (help_shown words first) ∙ none)
 
-pub version_fails : (words : List Text) → ComesFirst IsVersion words → fault_of command_line words ≡ [] → ⊥
+pub version_fails : (words : List Text) → WordComesFirst IsVersion words → fault_of command_line words ≡ [] → ⊥
 version_fails words first none = cons≢nil kind.DisplayVersion [] (sym (version_shown words first) ∙ none)
 
 -- ---- such words ask for no run
@@ -97,10 +97,10 @@ none_second word (next ∷ rest) (inr (inl is)) = rw is refl
 none_second word [] (inr (inr is)) = rw is refl
 none_second word (next ∷ rest) (inr (inr is)) = rw is refl
 
-pub help_asks_no_run : (words : List Text) → ComesFirst IsHelp words → options_of words ≡ None
+pub help_asks_no_run : (words : List Text) → WordComesFirst IsHelp words → options_of words ≡ None
 help_asks_no_run words (word, rest, is, inl e) = rw e (none_first word rest (inl is))
 help_asks_no_run words (word, rest, is, inr e) = rw e (none_second word rest (inl is))
 
-pub version_asks_no_run : (words : List Text) → ComesFirst IsVersion words → options_of words ≡ None
+pub version_asks_no_run : (words : List Text) → WordComesFirst IsVersion words → options_of words ≡ None
 version_asks_no_run words (word, rest, is, inl e) = rw e (none_first word rest (inr is))
 version_asks_no_run words (word, rest, is, inr e) = rw e (none_second word rest (inr is))

@@ -33,13 +33,13 @@ with_flag asked word =
     else None))
 
 -- what the words ask for after others; `--` may stand last
-abbrev pub asked_by_words : Switches → List (List ℕ) → Option Switches
-asked_by_words asked [] = Some asked
-asked_by_words asked (word ∷ []) = if bytes_eq word (codes "--") then Some asked else with_flag asked word
-asked_by_words asked (word ∷ next ∷ words) =
+abbrev pub with_words : Switches → List (List ℕ) → Option Switches
+with_words asked [] = Some asked
+with_words asked (word ∷ []) = if bytes_eq word (codes "--") then Some asked else with_flag asked word
+with_words asked (word ∷ next ∷ words) =
     if bytes_eq word (codes "--workers") then
-    option_and_then (λ n. option_and_then (λ more. asked_by_words more words) (with_workers asked n)) (workers_of_word next)
-    else option_and_then (λ more. asked_by_words more (next ∷ words)) (with_flag asked word)
+    option_and_then (λ n. option_and_then (λ more. with_words more words) (with_workers asked n)) (workers_of_word next)
+    else option_and_then (λ more. with_words more (next ∷ words)) (with_flag asked word)
 
 abbrev pub asked_for : Switches → Options
 asked_for asked = record {
@@ -51,7 +51,7 @@ asked_for asked = record {
 
 -- the options that the words after the program's name ask for, None where a word isn't taken
 abbrev pub options_of : List (List ℕ) → Option Options
-options_of words = option_map asked_for (asked_by_words nothing_asked words)
+options_of words = option_map asked_for (with_words nothing_asked words)
 
 -- ---- help and version
 
@@ -62,8 +62,8 @@ abbrev pub IsVersion : List ℕ → Type 0
 IsVersion word = (word ≡ codes "--version") ⊎ (word ≡ codes "-V")
 
 -- such a word comes first, or after `--journal`; what stands behind it isn't read
-abbrev pub ComesFirst : (List ℕ → Type 0) → List (List ℕ) → Type 0
-ComesFirst Is words = (word : List ℕ) × (rest : List (List ℕ)) × Is word
+abbrev pub WordComesFirst : (List ℕ → Type 0) → List (List ℕ) → Type 0
+WordComesFirst Is words = (word : List ℕ) × (rest : List (List ℕ)) × Is word
     × ((words ≡ word ∷ rest) ⊎ (words ≡ codes "--journal" ∷ word ∷ rest))
 
 -- what clap is told of the command line

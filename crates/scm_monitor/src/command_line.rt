@@ -2,7 +2,7 @@
 ghost use Rattle.std.specs.Prelude.{◌≡◌, ◌⊎◌, ◌≤◌, false, None, Some, map, IfOk, IfErr, OnErr, IsErr, IsErrAnd};
 ghost use Rattle.clap.specs.Words.{app_of, kind_of, rule_of};
 ghost use Rattle.scm_monitor.specs.declared.settings.TheConstants.{MOST_WORKERS};
-ghost use Rattle.scm_monitor.specs.CommandLine.{check_rule, command_line, each_rule, help_rule, journal_rule, options_of, workers_rule, ComesFirst, IsHelp, IsVersion};
+ghost use Rattle.scm_monitor.specs.CommandLine.{check_rule, command_line, each_rule, help_rule, journal_rule, options_of, workers_rule, IsHelp, IsVersion, WordComesFirst};
 
 use crate::settings::Options;
 use crate::switches::read_options;
@@ -134,9 +134,9 @@ fn command<'a>(alloc: Global) -> Result<Command<'a>, Error>
 /// What clap has to say to words that ask for no run: the help, the version, or what is wrong with them.
 fn refuse<'a>(alloc: Global, words: &'a [&'a str]) -> Result<Options, Error>
     ensures err { IsErr result }
-    ensures help { ComesFirst IsHelp (map (λ word. word.now) words.entry.now)
+    ensures help { WordComesFirst IsHelp (map (λ word. word.now) words.entry.now)
         → IsErrAnd result (λ error. (kind_of error ≡ ErrorKind.DisplayHelp) ⊎ (kind_of error ≡ ErrorKind.OutOfMemory)) }
-    ensures version { ComesFirst IsVersion (map (λ word. word.now) words.entry.now)
+    ensures version { WordComesFirst IsVersion (map (λ word. word.now) words.entry.now)
         → IsErrAnd result (λ error. (kind_of error ≡ ErrorKind.DisplayVersion) ⊎ (kind_of error ≡ ErrorKind.OutOfMemory)) }
 {
     let mut command = command(alloc)?;
@@ -151,9 +151,9 @@ pub fn options<'a>(alloc: Global, words: &'a [&'a str]) -> Result<Options, Error
     ensures taken { IfOk result (λ options. options_of (map (λ word. word.now) words.entry.now) ≡ Some options) }
     ensures refused { OnErr result (options_of (map (λ word. word.now) words.entry.now) ≡ None) }
     ensures workers { IfOk result (λ options. options.workers ≤ MOST_WORKERS) }
-    ensures help { ComesFirst IsHelp (map (λ word. word.now) words.entry.now)
+    ensures help { WordComesFirst IsHelp (map (λ word. word.now) words.entry.now)
         → IsErrAnd result (λ error. (kind_of error ≡ ErrorKind.DisplayHelp) ⊎ (kind_of error ≡ ErrorKind.OutOfMemory)) }
-    ensures version { ComesFirst IsVersion (map (λ word. word.now) words.entry.now)
+    ensures version { WordComesFirst IsVersion (map (λ word. word.now) words.entry.now)
         → IsErrAnd result (λ error. (kind_of error ≡ ErrorKind.DisplayVersion) ⊎ (kind_of error ≡ ErrorKind.OutOfMemory)) }
 {
     match read_options(words) {

@@ -3,7 +3,7 @@ ghost use Rattle.std.specs.Prelude.{◌≡◌, ◌≤◌, [], ◌∷◌, IfSome}
 ghost use Rattle.clap.specs.Walk.{texts};
 ghost use Rattle.std.specs.Str.{bytes_eq};
 ghost use Rattle.scm_monitor.specs.declared.settings.TheConstants.{MOST_WORKERS};
-ghost use Rattle.scm_monitor.specs.CommandLine.{asked_by_words, asked_for, nothing_asked, options_of, with_flag, with_workers, workers_of_word};
+ghost use Rattle.scm_monitor.specs.CommandLine.{asked_for, nothing_asked, options_of, with_flag, with_words, with_workers, workers_of_word};
 
 use crate::settings::{DEFAULT_WORKERS, MOST_WORKERS, Options};
 use scm_cells::read_count;
@@ -89,7 +89,7 @@ impl Switches {
 
     /// What this word asks for too where it stands last, which `--` may.
     fn with_last(self, word: &str) -> Option<Switches>
-        ensures with { result ≡ asked_by_words self (word.now ∷ []) }
+        ensures with { result ≡ with_words self (word.now ∷ []) }
         ensures kept { IfSome result (λ asked. asked.workers ≡ self.workers) }
     {
         if is_word(word, "--") {
@@ -113,7 +113,7 @@ impl Switches {
 
 /// What the words ask for, where each of them is taken.
 fn read_switches(words: &[&str]) -> Option<Switches>
-    ensures read { result ≡ asked_by_words nothing_asked (texts words.entry.now) }
+    ensures read { result ≡ with_words nothing_asked (texts words.entry.now) }
     ensures few { IfSome result (λ asked. IfSome asked.workers (λ n. n ≤ MOST_WORKERS)) }
 {
     let mut asked = Switches::nothing();

@@ -11,7 +11,7 @@ use Rattle.scm_sessions.specs.declared.findings.RefusedLine.{RefusedLine}
 use Rattle.scm_sessions.specs.Lines.{Line}
 use Rattle.scm_sessions.specs.Asking.{Asked, asked_by}
 use Rattle.scm_sessions.specs.Exchanges.{Exchange, has_reply, asked_in, asked_of}
-use Rattle.scm_sessions.specs.Findings.{replies_of, numbers_from, refusal_in, refused_line, first_refused, answers_inconsistent, answers_undecided, findings_of, with_answer}
+use Rattle.scm_sessions.specs.Findings.{replies_of, numbers_from, refusal_of_reply, refused_line, first_refused, answers_inconsistent, answers_undecided, findings_of, with_answer}
 use Rattle.scm_sessions.specs.Numbered.{told}
 
 cons≢nil : {X : Type 0} (x : X) (xs : List X) → x ∷ xs ≡ [] → ⊥
@@ -98,7 +98,7 @@ last_refused lines line e has =
     let number : told (1 + length lines) ≡ told (told (told (length lines) + 1)) = omega arith in
     ap (λ (b : Bool). first_refused (zip (if b then (1 + length lines) ∷ [] else []) (replies_of (e ∷ [])))) has
     ∙ option_or_none (refused_line (1 + length lines) e.reply)
-    ∙ ap (λ n. option_map (λ refusal. record { number = n; refusal = refusal }) (refusal_in e.reply)) number
+    ∙ ap (λ n. option_map (λ refusal. record { number = n; refusal = refusal }) (refusal_of_reply e.reply)) number
 
 none_refused : (lines : List Line) (line : Line) → has_reply (asked_by line) ≡ false → first_from (1 + length lines) (line ∷ []) [] ≡ None
 none_refused lines line has = ap (λ (b : Bool). first_refused (zip (if b then (1 + length lines) ∷ [] else []) (replies_of []))) has

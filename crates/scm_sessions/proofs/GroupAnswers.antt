@@ -17,7 +17,7 @@ use Rattle.scm_sessions.specs.Numbered.{Numbered, numbered, all_asked}
 use Rattle.scm_sessions.specs.Findings.{replies_of, found_in, with_findings}
 use Rattle.scm_sessions.specs.SharedRuns.{FitsAsked, AllFit, became_entry, entry_in, entries_of}
 use Rattle.scm_sessions.specs.Callers.{callers, AreNumberedFrom, made_by}
-use Rattle.scm_sessions.specs.Gathered.{made_in, number_in, entry_for}
+use Rattle.scm_sessions.specs.Gathered.{made_in, pass_number, entry_for}
 use Rattle.scm_sessions.specs.Groups.{Group, has_name}
 use Rattle.scm_sessions.specs.Jobs.{Job, begun, is_call, AreBegun, entries_for, lines_in, exchanges_in, replies_in, AnsweredWhole, AllAnswered, job_text, jobs_text, names_in, passes_in, entered_names, entered_passes, with_jobs}
 use Rattle.scm_sessions.proofs.Grouping.{is_in}
@@ -74,11 +74,11 @@ call_named name (good n call ∷ asked) are calls = (n, sym are.1)
 
 -- ---- a pass
 
-no_pass : (pass : Option Known) → number_in pass ≡ None → pass ≡ None
+no_pass : (pass : Option Known) → pass_number pass ≡ None → pass ≡ None
 no_pass None is = refl
 no_pass (Some pass) is = absurd (cc)
 
-some_pass : (pass : Option Known) (number : ℕ) → number_in pass ≡ Some number → (known : Known) × (pass ≡ Some known) × (known.number ≡ number)
+some_pass : (pass : Option Known) (number : ℕ) → pass_number pass ≡ Some number → (known : Known) × (pass ≡ Some known) × (known.number ≡ number)
 some_pass None number is = absurd (cc)
 some_pass (Some pass) number is = (pass, refl, cc)
 
@@ -105,7 +105,7 @@ record Has (g : Group) (pass : Option Known) (job : Job) : Type 0 where
   pub found : (f : Findings) → with_findings f job.found ≡ with_findings f (found_in (replies_in answered))
   pub fit : AllFit exchanges
   pub made : made_in job.pass ≡ made_in pass ++ entries_for exchanges
-  pub number : number_in job.pass ≡ number_in pass
+  pub number : pass_number job.pass ≡ pass_number pass
 
 Has-from : (g : Group) (pass : Option Known) (old new : Job) → old ≡ begun g pass → AreOf g.name (all_asked g.lines) → AnsweredWhole old new → Has g pass new
 Has-from g pass old new is are whole =
@@ -131,7 +131,7 @@ Has-from g pass old new is are whole =
       found = λ f. ap (with_findings f) (had.found ∙ ap (λ (j : Job). with_findings j.found (found_in (replies_in had.answered))) is);
       fit = had.fit;
       made = had.made ∙ ap (λ (j : Job). made_in j.pass ++ entries_for exchanges) is;
-      number = had.number ∙ ap (λ (j : Job). number_in j.pass) is;
+      number = had.number ∙ ap (λ (j : Job). pass_number j.pass) is;
     }
 
 -- ---- all groups
@@ -196,7 +196,7 @@ module _ (g : Group) (pass : Option Known) (job : Job) (has : Has g pass job) (n
   nothing_made is name = at (option_eq name_eq (Some name) g.name) refl
     where
       none : made_in job.pass ≡ []
-      none = ap made_in (no_pass job.pass (has.number ∙ ap number_in is))
+      none = ap made_in (no_pass job.pass (has.number ∙ ap pass_number is))
 
       at : (b : Bool) → option_eq name_eq (Some name) g.name ≡ b → entries_of name has.exchanges ≡ []
       at false other = other_entries name g.name has.exchanges other has.of
@@ -208,7 +208,7 @@ module _ (g : Group) (pass : Option Known) (job : Job) (has : Has g pass job) (n
 
   with_none : pass ≡ None → HasAnswered number (g ∷ groups) (job ∷ jobs)
   with_none is =
-      let left : job.pass ≡ None = no_pass job.pass (has.number ∙ ap number_in is) in
+      let left : job.pass ≡ None = no_pass job.pass (has.number ∙ ap pass_number is) in
       let names : entered_names jobs ≡ entered_names (job ∷ jobs) =
       ap (λ (ns : List (List ℕ)). ns ++ entered_names jobs) (sym (ap (names_in job.name) left ∙ no_names job.name)) in
       let passes : entered_passes jobs ≡ entered_passes (job ∷ jobs) =

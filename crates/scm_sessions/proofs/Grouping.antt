@@ -14,7 +14,7 @@ use Rattle.scm_sessions.specs.Exchanges.{has_reply}
 use Rattle.scm_sessions.specs.Numbered.{Numbered, numbered, numbered_from, numbered_in, replied, told}
 use Rattle.scm_sessions.specs.Findings.{unanswered, with_line}
 use Rattle.scm_sessions.specs.Reading.{TakesLine}
-use Rattle.scm_sessions.specs.Groups.{Group, group, has_name, with_numbered, groups_of, with_name, with_next, names_of, GroupsWhole, GroupsWholeLines}
+use Rattle.scm_sessions.specs.Groups.{Group, group, has_name, with_numbered, groups_of, with_group, with_next, group_names, GroupsWhole, GroupsWholeLines}
 use Rattle.scm_sessions.proofs.Cutting.{AreLines, AreLines-nil, AreLines-more, lines_of-end, lines_of-last, whole_lines_of-part}
 use Rattle.scm_sessions.proofs.Finding.{findings, told_more}
 use Rattle.scm_sessions.proofs.Running.{end_after}
@@ -35,22 +35,22 @@ next_place : (g : Group) (groups : List Group) (name : Option (List ℕ)) → ha
     → place_in (g ∷ groups) name ≡ suc (place_in groups name)
 next_place g groups name other = rw other (omega arith)
 
-place_of_name : (groups : List Group) (name : Option (List ℕ)) → position_or_len (option_eq name_eq name) (names_of groups) ≡ place_in groups name
+place_of_name : (groups : List Group) (name : Option (List ℕ)) → position_or_len (option_eq name_eq name) (group_names groups) ≡ place_in groups name
 place_of_name [] name = refl
 place_of_name (g ∷ groups) name = at (has_name name g) refl (place_of_name groups name)
   where
-    at : (b : Bool) → has_name name g ≡ b → position_or_len (option_eq name_eq name) (names_of groups) ≡ place_in groups name
-        → position_or_len (option_eq name_eq name) (names_of (g ∷ groups)) ≡ place_in (g ∷ groups) name
+    at : (b : Bool) → has_name name g ≡ b → position_or_len (option_eq name_eq name) (group_names groups) ≡ place_in groups name
+        → position_or_len (option_eq name_eq name) (group_names (g ∷ groups)) ≡ place_in (g ∷ groups) name
     at true is rest = rw is refl
     at false is rest = rw is (ap (λ (n : ℕ). 1 + n) rest)
 
-is_in-names : (groups : List Group) (name : Option (List ℕ)) → list_any (option_eq name_eq name) (names_of groups) ≡ is_in groups name
+is_in-names : (groups : List Group) (name : Option (List ℕ)) → list_any (option_eq name_eq name) (group_names groups) ≡ is_in groups name
 is_in-names [] name = refl
 is_in-names (g ∷ groups) name = ap (λ b. has_name name g || b) (is_in-names groups name)
 
 -- ---- a name, and the group of it
 
-module _ (keys : List (Option (List ℕ))) (groups now : List Group) (found name : Option (List ℕ)) (same : found ≡ name) (named : keys ≡ names_of groups)
+module _ (keys : List (Option (List ℕ))) (groups now : List Group) (found name : Option (List ℕ)) (same : found ≡ name) (named : keys ≡ group_names groups)
     (is_now : groups ≡ now) where
   pub place_is : (place : ℕ) → place ≡ position_or_len (option_eq name_eq found) keys → place ≡ place_in now name
   place_is place is =
@@ -63,22 +63,22 @@ module _ (keys : List (Option (List ℕ))) (groups now : List Group) (found name
       ∙ ap not (ap₂ (λ (n : Option (List ℕ)) (ks : List (Option (List ℕ))). list_any (option_eq name_eq n) ks) same named ∙ is_in-names groups name
       ∙ ap (λ (gs : List Group). is_in gs name) is_now)
 
-  with_old : (there : Bool) → is_in now name ≡ there → false ≡ not there → with_name now name ≡ now
+  with_old : (there : Bool) → is_in now name ≡ there → false ≡ not there → with_group now name ≡ now
   with_old true is there = rw is refl
   with_old false is there = absurd (cc)
 
-  with_new : (there : Bool) → is_in now name ≡ there → true ≡ not there → with_name now name ≡ now ++ group name [] ∷ []
+  with_new : (there : Bool) → is_in now name ≡ there → true ≡ not there → with_group now name ≡ now ++ group name [] ∷ []
   with_new true is there = absurd (cc)
   with_new false is there = rw is refl
 
   -- it has one already
   pub old_group : (is_new : Bool) (reserved : List Group) → is_new ≡ not (list_any (option_eq name_eq found) keys) → is_new ≡ false → reserved ≡ groups
-      → reserved ≡ with_name now name
+      → reserved ≡ with_group now name
   old_group is_new reserved added is stays = stays ∙ is_now ∙ sym (with_old (is_in now name) refl (was_in is_new false added is))
 
   -- it has one now
   pub new_group : (is_new : Bool) (reserved later : List Group) (new : Group) (read : Option (List ℕ)) → is_new ≡ not (list_any (option_eq name_eq found) keys)
-      → is_new ≡ true → reserved ≡ groups → later ≡ reserved ++ new ∷ [] → new ≡ group read [] → read ≡ name → later ≡ with_name now name
+      → is_new ≡ true → reserved ≡ groups → later ≡ reserved ++ new ∷ [] → new ≡ group read [] → read ≡ name → later ≡ with_group now name
   new_group is_new reserved later new read added is stays pushed made reads =
       pushed ∙ ap₂ (λ (gs : List Group) (g : Group). gs ++ g ∷ []) (stays ∙ is_now) (made ∙ ap (λ (n : Option (List ℕ)). group n []) reads)
       ∙ sym (with_new (is_in now name) refl (was_in is_new true added is))
@@ -89,14 +89,14 @@ module _ (keys : List (Option (List ℕ))) (groups now : List Group) (found name
 abbrev more : Group → Numbered → Group
 more g l = group g.name (g.lines ++ l ∷ [])
 
-with_name-first : (g : Group) (groups : List Group) (name : Option (List ℕ)) → has_name name g ≡ true → with_name (g ∷ groups) name ≡ g ∷ groups
-with_name-first g groups name found = rw found refl
+with_group-first : (g : Group) (groups : List Group) (name : Option (List ℕ)) → has_name name g ≡ true → with_group (g ∷ groups) name ≡ g ∷ groups
+with_group-first g groups name found = rw found refl
 
-with_name-next : (g : Group) (groups : List Group) (name : Option (List ℕ)) → has_name name g ≡ false
-    → with_name (g ∷ groups) name ≡ g ∷ with_name groups name
-with_name-next g groups name other = at (is_in groups name) refl
+with_group-next : (g : Group) (groups : List Group) (name : Option (List ℕ)) → has_name name g ≡ false
+    → with_group (g ∷ groups) name ≡ g ∷ with_group groups name
+with_group-next g groups name other = at (is_in groups name) refl
   where
-    at : (b : Bool) → is_in groups name ≡ b → with_name (g ∷ groups) name ≡ g ∷ with_name groups name
+    at : (b : Bool) → is_in groups name ≡ b → with_group (g ∷ groups) name ≡ g ∷ with_group groups name
     at true is = rw other (rw is refl)
     at false is = rw other (rw is refl)
 
@@ -110,40 +110,40 @@ with_numbered-next g groups l other = rw other refl
 
 -- where the group at the place of its name had one line more, the groups had it
 abbrev Puts : List Group → Numbered → Group → Group → Type 0
-Puts groups l old new = old ≡ get_or (with_name groups (name_in l.asked)) (place_in groups (name_in l.asked)) old
-    → set (with_name groups (name_in l.asked)) (place_in groups (name_in l.asked)) new ≡ with_numbered groups l
+Puts groups l old new = old ≡ get_or (with_group groups (name_in l.asked)) (place_in groups (name_in l.asked)) old
+    → set (with_group groups (name_in l.asked)) (place_in groups (name_in l.asked)) new ≡ with_numbered groups l
 
 pub line_pushed : (groups : List Group) (l : Numbered) (old new : Group) → new ≡ more old l → Puts groups l old new
 line_pushed [] l old new is was = ap (λ (g : Group). g ∷ []) (is ∙ ap (λ (g : Group). more g l) was)
 line_pushed (g ∷ groups) l old new is was = at (has_name (name_in l.asked) g) refl (line_pushed groups l old new is)
   where
     at : (b : Bool) → has_name (name_in l.asked) g ≡ b → Puts groups l old new
-        → set (with_name (g ∷ groups) (name_in l.asked)) (place_in (g ∷ groups) (name_in l.asked)) new ≡ with_numbered (g ∷ groups) l
+        → set (with_group (g ∷ groups) (name_in l.asked)) (place_in (g ∷ groups) (name_in l.asked)) new ≡ with_numbered (g ∷ groups) l
     at true first others =
-        let names = with_name-first g groups (name_in l.asked) first in
+        let names = with_group-first g groups (name_in l.asked) first in
         let place = first_place g groups (name_in l.asked) first in
         let here : old ≡ g = was ∙ ap₂ (λ (gs : List Group) (k : ℕ). get_or gs k old) names place in
         ap₂ (λ (gs : List Group) (k : ℕ). set gs k new) names place ∙ ap (λ (x : Group). x ∷ groups) (is ∙ ap (λ (x : Group). more x l) here)
         ∙ sym (with_numbered-first g groups l first)
     at false other others =
-        let names = with_name-next g groups (name_in l.asked) other in
+        let names = with_group-next g groups (name_in l.asked) other in
         let place = next_place g groups (name_in l.asked) other in
-        let there : old ≡ get_or (with_name groups (name_in l.asked)) (place_in groups (name_in l.asked)) old =
+        let there : old ≡ get_or (with_group groups (name_in l.asked)) (place_in groups (name_in l.asked)) old =
         was ∙ ap₂ (λ (gs : List Group) (k : ℕ). get_or gs k old) names place in
         ap₂ (λ (gs : List Group) (k : ℕ). set gs k new) names place ∙ ap (λ (gs : List Group). g ∷ gs) (others there)
         ∙ sym (with_numbered-next g groups l other)
 
 -- the names stay
-pub names_set : (groups : List Group) (k : ℕ) (old new : Group) → old ≡ get_or groups k old → new.name ≡ old.name → names_of (set groups k new) ≡ names_of groups
+pub names_set : (groups : List Group) (k : ℕ) (old new : Group) → old ≡ get_or groups k old → new.name ≡ old.name → group_names (set groups k new) ≡ group_names groups
 names_set [] k old new was same = refl
-names_set (g ∷ groups) zero old new was same = ap (λ (n : Option (List ℕ)). n ∷ names_of groups) (same ∙ ap (λ (x : Group). x.name) was)
+names_set (g ∷ groups) zero old new was same = ap (λ (n : Option (List ℕ)). n ∷ group_names groups) (same ∙ ap (λ (x : Group). x.name) was)
 names_set (g ∷ groups) (suc k) old new was same = ap (λ (ns : List (Option (List ℕ))). g.name ∷ ns) (names_set groups k old new was same)
 
 -- the same, where the groups stand elsewhere
-pub pushed_at : (now items mid : List Group) (place : ℕ) (l : Numbered) (old new : Group) → items ≡ mid → mid ≡ with_name now (name_in l.asked)
+pub pushed_at : (now items mid : List Group) (place : ℕ) (l : Numbered) (old new : Group) → items ≡ mid → mid ≡ with_group now (name_in l.asked)
     → place ≡ place_in now (name_in l.asked) → old ≡ get_or items place old → new ≡ more old l → set items place new ≡ with_numbered now l
 pushed_at now items mid place l old new view named is_place was is =
-    let there : old ≡ get_or (with_name now (name_in l.asked)) (place_in now (name_in l.asked)) old =
+    let there : old ≡ get_or (with_group now (name_in l.asked)) (place_in now (name_in l.asked)) old =
     was ∙ ap₂ (λ (gs : List Group) (k : ℕ). get_or gs k old) (view ∙ named) is_place in
     ap₂ (λ (gs : List Group) (k : ℕ). set gs k new) (view ∙ named) is_place ∙ line_pushed now l old new is there
 

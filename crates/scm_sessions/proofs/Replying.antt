@@ -18,13 +18,13 @@ use Rattle.scm_sessions.specs.SharedRuns.{FitsAsked, AllFit}
 use Rattle.scm_sessions.specs.Gathered.{made_in, entry_for, AnswersIn}
 use Rattle.scm_sessions.specs.Groups.{Group, group}
 use Rattle.scm_sessions.proofs.Merging.{with_none, with_both}
-use Rattle.scm_sessions.specs.Jobs.{Job, job, begun, is_call, AreBegun, Enters, entries_for, lines_in, exchanges_in, replies_in, Answered, AnsweredWhole, AllAnswered}
+use Rattle.scm_sessions.specs.Jobs.{Job, job, begun, is_call, AreBegun, HasEntered, entries_for, lines_in, exchanges_in, replies_in, AnsweredLines, AnsweredWhole, AllAnswered}
 
 -- ---- one line more
 
 -- no line was answered yet
-pub Answered-none : (of : Job) → Answered of of
-Answered-none of = record {
+pub AnsweredLines-none : (of : Job) → AnsweredLines of of
+AnsweredLines-none of = record {
   answered = [];
   name = refl;
   lines = refl;
@@ -36,8 +36,8 @@ Answered-none of = record {
 }
 
 -- more lines were answered
-pub Answered-more : {a b c : Job} → Answered a b → Answered b c → Answered a c
-Answered-more {a} {b} {c} one other =
+pub AnsweredLines-more : {a b c : Job} → AnsweredLines a b → AnsweredLines b c → AnsweredLines a c
+AnsweredLines-more {a} {b} {c} one other =
     let es : List Exchange = exchanges_in one.answered in
     let more : List Exchange = exchanges_in other.answered in
     let both : exchanges_in (one.answered ++ other.answered) ≡ es ++ more = map-append (λ (a : ℕ × Exchange). a.1) one.answered other.answered in
@@ -70,11 +70,11 @@ pub answered_next : (name : Option (List ℕ)) (lines later : List NumberedLine)
     → job name (map line_data lines) pass (map reply_data replies) found ≡ old
     → lines ≡ line ∷ later → now ≡ replies ++ reply ∷ [] → AnswersIn pass (asked_data line.asked) (reply_data reply) after
     → more ≡ with_findings found (found_in ((line.number, reply_data reply) ∷ []))
-    → Answered old (job name (map line_data later) after (map reply_data now) more) × (length (map line_data later) < length old.lines)
+    → AnsweredLines old (job name (map line_data later) after (map reply_data now) more) × (length (map line_data later) < length old.lines)
 answered_next name lines later line pass after replies now reply found more old is front grown answers finds =
     let left : Job = job name (map line_data later) after (map reply_data now) more in
-    subst (λ (o : Job). Answered o left × (length (map line_data later) < length o.lines)) is (answered, fewer) where
-      answered : Answered (job name (map line_data lines) pass (map reply_data replies) found) (job name (map line_data later) after (map reply_data now) more)
+    subst (λ (o : Job). AnsweredLines o left × (length (map line_data later) < length o.lines)) is (answered, fewer) where
+      answered : AnsweredLines (job name (map line_data lines) pass (map reply_data replies) found) (job name (map line_data later) after (map reply_data now) more)
       answered = record {
         answered = (line.number, exchange (asked_data line.asked) (reply_data reply)) ∷ [];
         name = refl;
@@ -100,7 +100,7 @@ first_replied name lines later line pass replies found old is front all =
     subst (All (λ (l : Numbered). has_reply l.asked ≡ true)) here all 0 (line_data line) (omega arith)
 
 -- what is left of lines that have replies has replies
-pub replied_rest : {a b : Job} → Answered a b → All (λ line. has_reply line.asked ≡ true) a.lines → All (λ line. has_reply line.asked ≡ true) b.lines
+pub replied_rest : {a b : Job} → AnsweredLines a b → All (λ line. has_reply line.asked ≡ true) a.lines → All (λ line. has_reply line.asked ≡ true) b.lines
 replied_rest {a} {b} answered all =
     rest (lines_in answered.answered) b.lines (subst (All (λ (l : Numbered). has_reply l.asked ≡ true)) answered.lines all) where
       rest : (front back : List Numbered) → All (λ line. has_reply line.asked ≡ true) (front ++ back) → All (λ line. has_reply line.asked ≡ true) back
@@ -141,12 +141,12 @@ module _ (number : ℕ) (name : Option (List ℕ)) (lines : List NumberedLine) (
       ∙ ap (λ (g : Group). begun g pass) is
 
   -- it has no pass
-  pub begins_without : (pass : Option Known) → pass ≡ None → (now pass ≡ begun of None) ⊎ Enters number of (now pass)
+  pub begins_without : (pass : Option Known) → pass ≡ None → (now pass ≡ begun of None) ⊎ HasEntered number of (now pass)
   begins_without pass none = inl (ap now none ∙ starts None)
 
   -- it has a call, and perhaps a pass
   pub begins_with : (pass entered : Option Known) (calls : Bool) → calls ≡ list_any (λ line. is_call (line_data line).asked) lines → calls ≡ true → pass ≡ entered
-      → IfSome entered (λ p. p ≡ newcomer number) → (now pass ≡ begun of None) ⊎ Enters number of (now pass)
+      → IfSome entered (λ p. p ≡ newcomer number) → (now pass ≡ begun of None) ⊎ HasEntered number of (now pass)
   begins_with pass None calls found is_so same new = begins_without pass same
   begins_with pass (Some p) calls found is_so same new =
       inr (record {
@@ -169,7 +169,7 @@ number_after-last [] last number = refl
 number_after-last (first ∷ jobs) last number = number_after-last jobs last (number_past first.pass number)
 
 AreBegun-last : (number : ℕ) (groups : List Group) (jobs : List Job) (group : Group) (last : Job) → AreBegun number groups jobs
-    → (last ≡ begun group None) ⊎ Enters (number_after jobs number) group last → AreBegun number (groups ++ group ∷ []) (jobs ++ last ∷ [])
+    → (last ≡ begun group None) ⊎ HasEntered (number_after jobs number) group last → AreBegun number (groups ++ group ∷ []) (jobs ++ last ∷ [])
 AreBegun-last number [] [] group last begin (inl is) = inl (is, tt)
 AreBegun-last number [] [] group last begin (inr enters) = inr (enters, tt)
 AreBegun-last number [] (first ∷ jobs) group last begin more = absurd begin
@@ -179,14 +179,14 @@ AreBegun-last number (g ∷ groups) (first ∷ jobs) group last (inl begin) more
     inl (
       begin.0,
       AreBegun-last number groups jobs group last begin.1
-          (subst (λ (n : ℕ). (last ≡ begun group None) ⊎ Enters (number_after jobs n) group last) same more),
+          (subst (λ (n : ℕ). (last ≡ begun group None) ⊎ HasEntered (number_after jobs n) group last) same more),
     )
 AreBegun-last number (g ∷ groups) (first ∷ jobs) group last (inr begin) more =
     let next : number_past first.pass number ≡ number + 1 = ap (λ (j : Job). number_past j.pass number) begin.0.begins_so in
     inr (
       begin.0,
       AreBegun-last (number + 1) groups jobs group last begin.1
-          (subst (λ (n : ℕ). (last ≡ begun group None) ⊎ Enters (number_after jobs n) group last) next more),
+          (subst (λ (n : ℕ). (last ≡ begun group None) ⊎ HasEntered (number_after jobs n) group last) next more),
     )
 
 -- these are the jobs of the groups so far, and the next pass has this number
@@ -196,10 +196,10 @@ pub record HaveBegun (groups : List Group) (jobs : List Job) (number : ℕ) : Ty
 
 -- one more begins
 pub HaveBegun-more : {groups : List Group} {jobs : List Job} {number : ℕ} → HaveBegun groups jobs number → (group : Group) (last : Job) (now : List Job) (next : ℕ)
-    → (last ≡ begun group None) ⊎ Enters number group last → next ≡ number_past last.pass number → now ≡ jobs ++ last ∷ []
+    → (last ≡ begun group None) ⊎ HasEntered number group last → next ≡ number_past last.pass number → now ≡ jobs ++ last ∷ []
     → HaveBegun (groups ++ group ∷ []) now next
 HaveBegun-more {groups} {jobs} {number} had group last now next more is grown = record {
   begun_so = subst (AreBegun 0 (groups ++ group ∷ [])) (sym grown) (AreBegun-last 0 groups jobs group last had.begun_so
-      (subst (λ (n : ℕ). (last ≡ begun group None) ⊎ Enters n group last) had.number_is more));
+      (subst (λ (n : ℕ). (last ≡ begun group None) ⊎ HasEntered n group last) had.number_is more));
   number_is = is ∙ ap (number_past last.pass) had.number_is ∙ sym (number_after-last jobs last 0) ∙ ap (λ (js : List Job). number_after js 0) (sym grown);
 }

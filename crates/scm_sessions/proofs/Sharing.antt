@@ -10,7 +10,7 @@ use Rattle.scm_cells.specs.Names.{name_eq}
 use Rattle.scm_book.specs.Calls.{CallData, ReplyData, refused, EntryData}
 use Rattle.scm_book.specs.Callers.{calls_by}
 use Rattle.scm_shared.specs.Passes.{Known}
-use Rattle.scm_shared.specs.Audits.{covers, AllFollow, Agree}
+use Rattle.scm_shared.specs.Audits.{covers, AllMatchEntries, Agree}
 use Rattle.scm_sessions.specs.Asking.{Asked, nothing, bad, good}
 use Rattle.scm_sessions.specs.Exchanges.{Exchange, Answers, LeadTo, RunsWholeLines, RunsPart}
 use Rattle.scm_sessions.specs.Script.{session_of}
@@ -72,7 +72,7 @@ RunsPart-fit {script} {left} {written} {after} {old} {new} had = RunsPart-map (�
 -- ---- passes and the journal
 
 -- a session's pass made its entries
-followed : (from : ℕ) (passes : List Known) (journal : List EntryData) (place : ℕ) → AreNumberedFrom from passes → AllFollow passes journal
+followed : (from : ℕ) (passes : List Known) (journal : List EntryData) (place : ℕ) → AreNumberedFrom from passes → AllMatchEntries passes journal
     → place < length passes → option_map_or (λ pass. pass.made) (slice_get passes place) [] ≡ calls_by (from + place) journal
 followed from [] journal place numbered follow within = absurd (omega (arith, within))
 followed from (p ∷ passes) journal zero numbered follow within =
@@ -80,7 +80,7 @@ followed from (p ∷ passes) journal zero numbered follow within =
     let first = numbered.0 in
     let same : p.number ≡ from + zero = omega (arith, first) in own ∙ ap (λ n. calls_by n journal) same
 followed from (p ∷ passes) journal (suc place) numbered follow within =
-    let rest : AllFollow passes journal = All-tail (λ (p : Known). p.made ≡ calls_by p.number journal) p passes follow in
+    let rest : AllMatchEntries passes journal = All-tail (λ (p : Known). p.made ≡ calls_by p.number journal) p passes follow in
     let less : place < length passes = omega (arith, within) in
     let same : from + 1 + place ≡ from + suc place = omega arith in
     followed (from + 1) passes journal place numbered.1 rest less ∙ ap (λ n. calls_by n journal) same

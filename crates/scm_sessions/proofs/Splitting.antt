@@ -6,7 +6,7 @@ use Rattle.std.proofs.lemmas.List.Sums.{fails_before_first}
 use Rattle.std.proofs.lemmas.List.Quantifiers.{position-Some}
 use Rattle.std.specs.List.{onto_first, position, position_or_len}
 use Rattle.std.specs.Option.{unwrap_or}
-use Rattle.scm_sessions.specs.Words.{is_blank, fields_of, words_of}
+use Rattle.scm_sessions.specs.Words.{is_blank, split_at_blanks, words_of}
 
 abbrev pub is_word : List ℕ → Bool
 is_word field = nat_lt 0 (length field)
@@ -34,7 +34,7 @@ words-blanks (b ∷ bytes) (suc i) within blank =
 -- what stands before the first blank is a field, and the words of the others are those of what stands from there on
 pub record SplitsField (bytes : List ℕ) (e : ℕ) : Type 0 where
   pub others : List (List ℕ)
-  pub fields : fields_of bytes ≡ take e bytes ∷ others
+  pub fields : split_at_blanks bytes ≡ take e bytes ∷ others
   pub words : filter is_word others ≡ words_of (drop e bytes)
 
 splits_field : (bytes : List ℕ) (e : ℕ) → e ≤ length bytes → ((k : ℕ) → k < e → is_blank (get_or bytes k 0) ≡ false)
@@ -43,7 +43,7 @@ splits_field [] zero within word ends = record { others = []; fields = refl; wor
 splits_field [] (suc e) within word ends = absurd (omega arith)
 splits_field (b ∷ bytes) zero within word ends =
     let blank : is_blank b ≡ true = ends (omega arith) in
-    record { others = fields_of bytes; fields = slice_split-cons_yes is_blank b bytes blank; words = sym (words-blank b bytes blank) }
+    record { others = split_at_blanks bytes; fields = slice_split-cons_yes is_blank b bytes blank; words = sym (words-blank b bytes blank) }
 splits_field (b ∷ bytes) (suc e) within word ends =
     let rest = splits_field bytes e (omega arith) (λ k below. word (suc k) (omega arith)) (λ below. ends (omega arith)) in
     record {

@@ -21,9 +21,9 @@ numbers_from n [] = []
 numbers_from n (line ∷ lines) =
     if has_reply (asked_by line) then n ∷ numbers_from (n + 1) lines else numbers_from (n + 1) lines
 
-abbrev pub refusal_in : ReplyData → Option Refusal
-refusal_in (refused refusal) = Some refusal
-refusal_in reply = None
+abbrev pub refusal_of_reply : ReplyData → Option Refusal
+refusal_of_reply (refused refusal) = Some refusal
+refusal_of_reply reply = None
 
 abbrev pub answers_inconsistent : ReplyData → Bool
 answers_inconsistent inconsistent = true
@@ -37,7 +37,7 @@ answers_undecided reply = false
 
 -- the line of this number, where it was refused
 abbrev pub refused_line : ℕ → ReplyData → Option RefusedLine
-refused_line n reply = option_map (λ refusal. record { number = told n; refusal = refusal }) (refusal_in reply)
+refused_line n reply = option_map (λ refusal. record { number = told n; refusal = refusal }) (refusal_of_reply reply)
 
 -- the first of the replies that is a refusal, each reply with the number of its line
 abbrev pub first_refused : List (ℕ × ReplyData) → Option RefusedLine
@@ -72,8 +72,8 @@ abbrev pub with_line : Findings → Findings
 with_line found = record found { lines = told (found.lines + 1) }
 
 -- the reply to the last line
-abbrev pub with_reply : Findings → ReplyData → Findings
-with_reply found reply = record found {
+abbrev pub with_last_reply : Findings → ReplyData → Findings
+with_last_reply found reply = record found {
   refused = option_or found.refused (refused_line found.lines reply);
   is_inconsistent = if answers_inconsistent reply then true else found.is_inconsistent;
   is_undecided = if answers_undecided reply then true else found.is_undecided;
@@ -82,7 +82,7 @@ with_reply found reply = record found {
 -- one line more, with its reply where it has one
 abbrev pub with_answer : Findings → List ReplyData → Findings
 with_answer found [] = with_line found
-with_answer found (reply ∷ others) = with_reply (with_line found) reply
+with_answer found (reply ∷ others) = with_last_reply (with_line found) reply
 
 -- ---- where lines are not answered in their order
 

@@ -11,8 +11,8 @@ abbrev pub made_in : Option Known → List (CallData × ReplyData)
 made_in None = []
 made_in (Some pass) = pass.made
 
-abbrev pub number_in : Option Known → Option ℕ
-number_in pass = option_map (λ pass. pass.number) pass
+abbrev pub pass_number : Option Known → Option ℕ
+pass_number pass = option_map (λ pass. pass.number) pass
 
 -- the call of a line, where it became an entry, with the reply written for it
 abbrev pub entry_for : Asked → ReplyData → List (CallData × ReplyData)
@@ -24,4 +24,4 @@ entry_for asked reply = []
 pub record AnswersIn (old : Option Known) (asked : Asked) (reply : ReplyData) (new : Option Known) : Type 0 where
   pub fit : FitsAsked asked reply
   pub made : made_in new ≡ made_in old ++ entry_for asked reply
-  pub number : number_in new ≡ number_in old
+  pub number : pass_number new ≡ pass_number old

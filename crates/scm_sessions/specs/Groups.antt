@@ -57,12 +57,12 @@ pub record GroupsWholeLines (script left : Option (List ℕ)) (groups : List Gro
 -- ---- line by line
 
 -- the groups, with one of this name among them
-abbrev pub with_name : List Group → Option (List ℕ) → List Group
-with_name groups name = if list_any (has_name name) groups then groups else groups ++ group name [] ∷ []
+abbrev pub with_group : List Group → Option (List ℕ) → List Group
+with_group groups name = if list_any (has_name name) groups then groups else groups ++ group name [] ∷ []
 
 -- the groups with one line more, which has this number, where it has a reply
 abbrev pub with_next : List Group → ℕ → Line → List Group
 with_next groups number line = fold with_numbered groups (replied (numbered number (asked_by line) ∷ []))
 
-abbrev pub names_of : List Group → List (Option (List ℕ))
-names_of groups = map (λ group. group.name) groups
+abbrev pub group_names : List Group → List (Option (List ℕ))
+group_names groups = map (λ group. group.name) groups

@@ -12,7 +12,7 @@ use Rattle.scm_sessions.specs.Findings.{replies_of, unanswered, found_in, with_f
 use Rattle.scm_sessions.specs.Replies.{reply_line}
 use Rattle.scm_sessions.specs.SharedRuns.{AllFit}
 use Rattle.scm_sessions.specs.Groups.{Group}
-use Rattle.scm_sessions.specs.Gathered.{made_in, number_in, entry_for}
+use Rattle.scm_sessions.specs.Gathered.{made_in, pass_number, entry_for}
 
 pub record Job : Type 0 where
   -- the name of the group, None for lines without one
@@ -39,7 +39,7 @@ abbrev pub begun : Group → Option Known → Job
 begun group pass = job group.name group.lines pass [] (unanswered 0)
 
 -- the group has a call, and entered with this number
-pub record Enters (number : ℕ) (group : Group) (begins : Job) : Type 0 where
+pub record HasEntered (number : ℕ) (group : Group) (begins : Job) : Type 0 where
   pub calls : list_any (λ line. is_call line.asked) group.lines ≡ true
   pub begins_so : begins ≡ begun group (Some (newcomer number))
 
@@ -47,7 +47,7 @@ pub record Enters (number : ℕ) (group : Group) (begins : Job) : Type 0 where
 abbrev pub AreBegun : ℕ → List Group → List Job → Type 0
 AreBegun number [] [] = ⊤
 AreBegun number (group ∷ groups) (first ∷ jobs) =
-    ((first ≡ begun group None) × AreBegun number groups jobs) ⊎ (Enters number group first × AreBegun (number + 1) groups jobs)
+    ((first ≡ begun group None) × AreBegun number groups jobs) ⊎ (HasEntered number group first × AreBegun (number + 1) groups jobs)
 AreBegun number groups jobs = ⊥
 
 -- ---- how jobs go on
@@ -68,7 +68,7 @@ abbrev pub replies_in : List (ℕ × Exchange) → List (ℕ × ReplyData)
 replies_in answered = map (λ a. (a.0, a.1.reply)) answered
 
 -- the next lines of a job were answered, as these exchanges say
-pub record Answered (old new : Job) : Type 0 where
+pub record AnsweredLines (old new : Job) : Type 0 where
   pub answered : List (ℕ × Exchange)
   pub name : new.name ≡ old.name
   pub lines : old.lines ≡ lines_in answered ++ new.lines
@@ -76,11 +76,11 @@ pub record Answered (old new : Job) : Type 0 where
   pub found : new.found ≡ with_findings old.found (found_in (replies_in answered))
   pub fit : AllFit (exchanges_in answered)
   pub made : made_in new.pass ≡ made_in old.pass ++ entries_for (exchanges_in answered)
-  pub number : number_in new.pass ≡ number_in old.pass
+  pub number : pass_number new.pass ≡ pass_number old.pass
 
 -- all lines of a job were answered
 pub record AnsweredWhole (old new : Job) : Type 0 where
-  pub answered : Answered old new
+  pub answered : AnsweredLines old new
   pub ended : new.lines ≡ []
 
 -- all lines of these jobs were answered

@@ -23,8 +23,8 @@ pub record AppendsPart (old new : Option (List ℕ)) (text : List ℕ) : Type 0 
   pub appended : Appends old new front
 
 -- the text went out whole; at a fault a beginning of it did
-abbrev pub Writes : {T E : Type 0} → Option (List ℕ) → Option (List ℕ) → Result T E → List ℕ → Type 0
-Writes old new outcome text = MatchResult outcome (λ _. Appends old new text) (λ _. AppendsPart old new text)
+abbrev pub WritesText : {T E : Type 0} → Option (List ℕ) → Option (List ℕ) → Result T E → List ℕ → Type 0
+WritesText old new outcome text = MatchResult outcome (λ _. Appends old new text) (λ _. AppendsPart old new text)
 
 -- what calls did to the bytes of a port's writer, that had failed before or not, and has failed now or not:
 -- the text went out whole, or a beginning of it where a call failed, and nothing where one had failed before

@@ -20,8 +20,8 @@ abbrev pub left_of : {R : Type 0} → (R → Option (List ℕ)) → LineReader �
 left_of remaining lines port = prepend_known (unread_of lines) (remaining (inner_of port))
 
 -- at most how many bytes can still be handed out
-abbrev pub budget_of : {R : Type 0} → LineReader → Port R → ℕ
-budget_of lines port = (MOST_READS - reads_of port) * (CHUNK + 1) + (lines.end - lines.start)
+abbrev pub most_bytes_left : {R : Type 0} → LineReader → Port R → ℕ
+most_bytes_left lines port = (MOST_READS - reads_of port) * (CHUNK + 1) + (lines.end - lines.start)
 
 -- the line that was taken last
 abbrev pub held_line : LineReader → Line

@@ -8,12 +8,12 @@ abbrev pub is_blank : ℕ → Bool
 is_blank b = b == 32 || b == 9
 
 -- what stands before, between and after the blanks of a line, empty ones too
-abbrev pub fields_of : List ℕ → List (List ℕ)
-fields_of bytes = slice_split is_blank bytes
+abbrev pub split_at_blanks : List ℕ → List (List ℕ)
+split_at_blanks bytes = slice_split is_blank bytes
 
 -- the words of a line, in order
 abbrev pub words_of : List ℕ → List (List ℕ)
-words_of bytes = filter (λ field. nat_lt 0 (length field)) (fields_of bytes)
+words_of bytes = filter (λ field. nat_lt 0 (length field)) (split_at_blanks bytes)
 
 -- a word as a name, where it is one
 abbrev pub name_of_word : List ℕ → Option (List ℕ)

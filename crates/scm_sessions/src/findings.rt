@@ -2,7 +2,7 @@
 ghost use Rattle.std.specs.Prelude.{◌≡◌, [], ◌∷◌, option_copied};
 ghost use Rattle.scm_book.specs.Calls.{reply_data};
 ghost use Rattle.scm_sessions.specs.Answering.{answer_replies};
-ghost use Rattle.scm_sessions.specs.Findings.{findings_of, refusal_in, answers_inconsistent, answers_undecided, earlier as earlier_line, found_in, refused_line, status_of, with_answer, with_findings, with_line, with_reply};
+ghost use Rattle.scm_sessions.specs.Findings.{findings_of, refusal_of_reply, answers_inconsistent, answers_undecided, earlier as earlier_line, found_in, refused_line, status_of, with_answer, with_findings, with_line, with_last_reply};
 
 use crate::replies::Answer;
 use scm_book::Reply;
@@ -29,7 +29,7 @@ pub struct Findings {
 
 /// Why a call was refused, where the reply says that.
 fn refusal_of(reply: &Reply) -> Option<Refusal>
-    ensures { result ≡ refusal_in (reply_data reply.now) }
+    ensures { result ≡ refusal_of_reply (reply_data reply.now) }
 {
     match reply {
         Reply::Refused(refusal) => Some(*refusal),
@@ -129,7 +129,7 @@ impl Findings {
 
     /// This is the reply to the last line.
     fn add_reply(&mut self, reply: &Reply)
-        ensures { self.new ≡ with_reply self.old (reply_data reply.now) }
+        ensures { self.new ≡ with_last_reply self.old (reply_data reply.now) }
     {
         if self.refused.is_none() {
             self.refused = refusal_of(reply).map(|refusal| RefusedLine {

@@ -4,7 +4,7 @@ ghost use Rattle.scm_book.specs.Calls.{reply_data};
 ghost use Rattle.scm_sessions.specs.Asking.{asked_data};
 ghost use Rattle.scm_sessions.specs.Exchanges.{has_reply};
 ghost use Rattle.scm_sessions.specs.Gathered.{AnswersIn};
-ghost use Rattle.scm_sessions.specs.Jobs.{Answered, AnsweredWhole, AllAnswered};
+ghost use Rattle.scm_sessions.specs.Jobs.{AnsweredLines, AnsweredWhole, AllAnswered};
 
 use crate::asking::Asked;
 use crate::jobs::Job;
@@ -41,7 +41,7 @@ fn reply_to<B: BookNaming, T: Wait>(
 /// Answers the next line of a group, and says whether there was one.
 fn answer_next<B: BookNaming, T: Wait>(rt: &T, book: &SharedBook<B>, group: &mut Job<B>) -> bool
     requires { All (λ line. has_reply line.asked ≡ true) group.old.lines }
-    ensures { MatchBool result (Answered group.old group.new × (length group.new.lines < length group.old.lines))
+    ensures { MatchBool result (AnsweredLines group.old group.new × (length group.new.lines < length group.old.lines))
         ((group.new ≡ group.old) × (group.old.lines ≡ [])) }
 {
     let Some(line) = group.lines.pop_front() else {

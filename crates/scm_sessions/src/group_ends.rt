@@ -1,7 +1,7 @@
 //! The end of a run in groups: what their lines were answered is written, and the passes of their sessions are gathered.
 ghost use Rattle.std.specs.Prelude.{◌≡◌, ◌≤◌, ◌<◌, ◌++◌, [], length, map, flat_map, false, is_err, option_copied, vec_capacity, IfOk, IfErr};
 ghost use Rattle.scm_book.specs.Calls.{reply_data};
-ghost use Rattle.scm_sessions.specs.Ports.{inner_of, has_failed, Writes, Sends};
+ghost use Rattle.scm_sessions.specs.Ports.{inner_of, has_failed, WritesText, Sends};
 ghost use Rattle.scm_sessions.specs.Replies.{reply_line};
 ghost use Rattle.scm_sessions.specs.Findings.{with_findings};
 ghost use Rattle.scm_sessions.specs.Jobs.{job_text, jobs_text, with_jobs, names_in, passes_in, entered_names, entered_passes};
@@ -52,7 +52,7 @@ pub(crate) fn write_groups<B: BookNaming, W: Write>(
     groups: &[Job<B>],
 ) -> Result<(), RunFault>
     requires { has_failed writer.old ≡ false }
-    ensures bytes { Writes (W.contents (inner_of writer.old)) (W.contents (inner_of writer.new)) result (jobs_text groups.now) }
+    ensures bytes { WritesText (W.contents (inner_of writer.old)) (W.contents (inner_of writer.new)) result (jobs_text groups.now) }
     ensures fault { IfErr result (λ fault. fault ≡ RunFault.WriteFailed) }
     ensures failed { has_failed writer.new ≡ is_err result }
 {

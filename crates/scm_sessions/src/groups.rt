@@ -8,7 +8,7 @@ ghost use Rattle.scm_sessions.specs.Ports.{inner_of, has_failed};
 ghost use Rattle.scm_sessions.specs.Reading.{unread_of};
 ghost use Rattle.scm_sessions.specs.Numbered.{line_data};
 ghost use Rattle.scm_sessions.specs.Findings.{unanswered, with_line};
-ghost use Rattle.scm_sessions.specs.Groups.{group, has_name, with_numbered, with_next, with_name, GroupsWhole, GroupsWholeLines};
+ghost use Rattle.scm_sessions.specs.Groups.{group, has_name, with_numbered, with_next, with_group, GroupsWhole, GroupsWholeLines};
 
 use crate::asking::{Asked, read_asked};
 use crate::numbered::NumberedLine;
@@ -49,13 +49,13 @@ impl Model for Group {
 
 impl Model for Groups {
     ghost use Rattle.std.specs.Prelude.{◌≡◌, List};
-    ghost use Rattle.scm_sessions.specs.Groups.{Group as GroupData, names_of};
+    ghost use Rattle.scm_sessions.specs.Groups.{Group as GroupData, group_names};
 
     ghost Value = { List GroupData };
 
     ghost view = { λ g. g.groups.items };
 
-    ghost invariant = { λ g. g.names.keys ≡ names_of g.groups.items };
+    ghost invariant = { λ g. g.names.keys ≡ group_names g.groups.items };
 }
 
 /// The name that a line begins with, where it has a reply.
@@ -113,7 +113,7 @@ impl Groups {
     fn place_of(&mut self, asked: &Asked) -> Result<usize, NoMemory>
         ensures place { IfOk result (λ place. place ≡ position_or_len (has_name (name_in (asked_data asked.now))) self.old) }
         ensures within { IfOk result (λ place. place < length self.new) }
-        ensures groups { OnOk result (self.new ≡ with_name self.old (name_in (asked_data asked.now))) }
+        ensures groups { OnOk result (self.new ≡ with_group self.old (name_in (asked_data asked.now))) }
     {
         let alloc = self.alloc;
         self.groups.reserve(1)?;

@@ -4,7 +4,7 @@ ghost use Rattle.std.specs.List.{list_any};
 ghost use Rattle.std.specs.Option.{option_map_or};
 ghost use Rattle.scm_shared.specs.Passes.{newcomer};
 ghost use Rattle.scm_sessions.specs.Numbered.{line_data};
-ghost use Rattle.scm_sessions.specs.Jobs.{begun, is_call, AreBegun, Enters};
+ghost use Rattle.scm_sessions.specs.Jobs.{begun, is_call, AreBegun, HasEntered};
 
 use crate::Findings;
 use crate::asking::Asked;
@@ -71,7 +71,7 @@ fn job_of<B: BookNaming, T: Wait>(
     number: usize,
     group: Group,
 ) -> Result<Job<B>, NoMemory>
-    ensures { IfOk result (λ begins. (begins ≡ begun group None) ⊎ Enters number group begins) }
+    ensures { IfOk result (λ begins. (begins ≡ begun group None) ⊎ HasEntered number group begins) }
 {
     let Group { name, lines } = group;
     let replies = Vec::with_capacity(alloc, lines.len())?;

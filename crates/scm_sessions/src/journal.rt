@@ -1,7 +1,7 @@
 //! The text of a journal.
 ghost use Rattle.std.specs.Prelude.{◌≡◌, map, false, is_err, IfErr};
 ghost use Rattle.scm_book.specs.Calls.{entry_data};
-ghost use Rattle.scm_sessions.specs.Ports.{inner_of, has_failed, reads_of, Writes, Sends};
+ghost use Rattle.scm_sessions.specs.Ports.{inner_of, has_failed, reads_of, WritesText, Sends};
 ghost use Rattle.scm_sessions.specs.JournalText.{AreNamed, entry_line, entry_lines, journal_head, journal_text};
 
 use crate::{Port, RunFault};
@@ -72,7 +72,7 @@ pub fn write_journal<W: Write>(
 ) -> Result<(), RunFault>
     requires writes { has_failed writer.old ≡ false }
     requires named { AreNamed names.now book.now.journal }
-    ensures bytes { Writes (W.contents (inner_of writer.old)) (W.contents (inner_of writer.new)) result
+    ensures bytes { WritesText (W.contents (inner_of writer.old)) (W.contents (inner_of writer.new)) result
         (journal_text names.now book.now.journal) }
     ensures fault { IfErr result (λ fault. fault ≡ RunFault.WriteFailed) }
     ensures failed { has_failed writer.new ≡ is_err result }

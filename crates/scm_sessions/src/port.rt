@@ -3,7 +3,7 @@ ghost use Rattle.std.specs.Prelude.{◌≡◌, ◌+◌, ◌<◌, ◌≤◌, ◌|
 ghost use Rattle.std.specs.Io.{ReadsAtMost, WritesAtMost};
 ghost use Rattle.std.specs.Io.KnownBytes.{Keeps, ReadConsumes, WriteAppends};
 ghost use Rattle.scm_sequences.specs.declared.limits.TheConstants.{MOST_READS};
-ghost use Rattle.scm_sessions.specs.Ports.{inner_of, has_failed, reads_of, Writes, Sends};
+ghost use Rattle.scm_sessions.specs.Ports.{inner_of, has_failed, reads_of, WritesText, Sends};
 ghost use Rattle.scm_sessions.specs.Replies.{spaced, spaced_word};
 
 use itoa::Buffer;
@@ -104,7 +104,7 @@ impl<W: Write> Port<W> {
 
     /// Writes all these bytes; at a fault the writer has a beginning of them.
     pub(crate) fn write_all(&mut self, bytes: &[u8]) -> Result<(), WriteFault>
-        ensures bytes { Writes (W.contents (inner_of self.old)) (W.contents (inner_of self.new)) result bytes.now }
+        ensures bytes { WritesText (W.contents (inner_of self.old)) (W.contents (inner_of self.new)) result bytes.now }
         ensures failed { has_failed self.new ≡ has_failed self.old || is_err result }
         ensures reads { reads_of self.new ≡ reads_of self.old }
     {

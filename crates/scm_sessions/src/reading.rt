@@ -54,7 +54,7 @@ impl LineReader {
     ghost use Rattle.scm_sequences.specs.declared.limits.TheConstants.{LONGEST_LINE};
     ghost use Rattle.scm_sessions.specs.Lines.{line_given, HasNoFeed};
     ghost use Rattle.scm_sessions.specs.Ports.{inner_of, has_failed};
-    ghost use Rattle.scm_sessions.specs.Reading.{unread_of, left_of, budget_of, held_line, TakesLine};
+    ghost use Rattle.scm_sessions.specs.Reading.{unread_of, left_of, most_bytes_left, held_line, TakesLine};
 
     /// A reader that holds nothing yet.
     pub(crate) fn new(alloc: Global) -> Result<LineReader, NoMemory>
@@ -91,7 +91,7 @@ impl LineReader {
             (IsAtEnd (left_of R.remaining self.new port.new))) }
         ensures none { OnErr result (unread_of self.new ≡ []) }
         ensures kept { Keeps (left_of R.remaining self.old port.old) (left_of R.remaining self.new port.new) }
-        ensures budget { budget_of self.new port.new ≤ budget_of self.old port.old }
+        ensures budget { most_bytes_left self.new port.new ≤ most_bytes_left self.old port.old }
         ensures line { self.new.line ≡ self.old.line }
         ensures is_long { self.new.is_long ≡ self.old.is_long }
         ensures failed { MatchResult result (λ _. has_failed port.new ≡ has_failed port.old) (λ _. has_failed port.new ≡ true) }
@@ -142,7 +142,7 @@ impl LineReader {
             (left_of R.remaining self.new port.new) (held_line self.new)) }
         ensures read { OnErr result ((part : List ℕ) × HasNoFeed part
             × Consumes (left_of R.remaining self.old port.old) (R.remaining (inner_of port.new)) part) }
-        ensures fewer { IfOk result (λ cut. cut ≡ Cut.Whole → budget_of self.new port.new < budget_of self.old port.old) }
+        ensures fewer { IfOk result (λ cut. cut ≡ Cut.Whole → most_bytes_left self.new port.new < most_bytes_left self.old port.old) }
         ensures failed { MatchResult result (λ _. has_failed port.new ≡ has_failed port.old) (λ _. has_failed port.new ≡ true) }
     {
         self.line.clear();

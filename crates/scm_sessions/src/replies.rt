@@ -1,7 +1,7 @@
 //! The text of replies.
 ghost use Rattle.std.specs.Prelude.{◌≡◌, ◌++◌, codes, false, flat_map, is_err, option_copied, unwrap_or, IfErr};
 ghost use Rattle.scm_book.specs.Calls.{reply_data, marked, consistent, ops, listed, refused};
-ghost use Rattle.scm_sessions.specs.Ports.{inner_of, has_failed, reads_of, Writes, Sends};
+ghost use Rattle.scm_sessions.specs.Ports.{inner_of, has_failed, reads_of, WritesText, Sends};
 ghost use Rattle.scm_sessions.specs.Replies.{spaced, fixed_text, with_text, shown_text, reply_text, reply_line};
 
 use crate::{Port, RunFault};
@@ -206,7 +206,7 @@ pub(crate) fn send_reply<W: Write>(
     reply: &Reply,
 ) -> Result<(), RunFault>
     requires { has_failed writer.old ≡ false }
-    ensures bytes { Writes (W.contents (inner_of writer.old)) (W.contents (inner_of writer.new)) result
+    ensures bytes { WritesText (W.contents (inner_of writer.old)) (W.contents (inner_of writer.new)) result
         (reply_line (option_copied name.entry) (reply_data reply.now)) }
     ensures fault { IfErr result (λ fault. fault ≡ RunFault.WriteFailed) }
     ensures failed { has_failed writer.new ≡ is_err result }
@@ -228,7 +228,7 @@ pub fn write_reply<W: Write>(
     reply: &Reply,
 ) -> Result<(), RunFault>
     requires { has_failed writer.old ≡ false }
-    ensures bytes { Writes (W.contents (inner_of writer.old)) (W.contents (inner_of writer.new)) result
+    ensures bytes { WritesText (W.contents (inner_of writer.old)) (W.contents (inner_of writer.new)) result
         (reply_line (option_copied name.entry) (reply_data reply.now)) }
     ensures fault { IfErr result (λ fault. fault ≡ RunFault.WriteFailed) }
     ensures failed { has_failed writer.new ≡ is_err result }

@@ -4,7 +4,7 @@ ghost use Rattle.std.specs.Io.KnownBytes.{Keeps};
 ghost use Rattle.scm_sequences.specs.declared.limits.TheConstants.{MOST_SESSIONS};
 ghost use Rattle.scm_sessions.specs.Lines.{line_given};
 ghost use Rattle.scm_sessions.specs.Asking.{asked_by};
-ghost use Rattle.scm_sessions.specs.Ports.{inner_of, has_failed, Writes};
+ghost use Rattle.scm_sessions.specs.Ports.{inner_of, has_failed, WritesText};
 ghost use Rattle.scm_sessions.specs.Reading.{unread_of};
 ghost use Rattle.scm_book.specs.Journal.{IsLegalBook};
 ghost use Rattle.scm_sessions.specs.JournalText.{AreNamed};
@@ -47,7 +47,7 @@ fn send_answer<S: MakeCalls, W: Write>(
     requires { has_failed writer.old ≡ false }
     ensures answered { (text : List ℕ)
         × (answers : AnswersLine S.calls sessions.old (asked_by (line_given (option_copied line.entry))) text sessions.new)
-        × Writes (W.contents (inner_of writer.old)) (W.contents (inner_of writer.new)) result text
+        × WritesText (W.contents (inner_of writer.old)) (W.contents (inner_of writer.new)) result text
         × (findings.new ≡ with_answer findings.old (replies_of answers.exchanges)) }
     ensures fault { IfErr result (λ fault. fault ≡ RunFault.WriteFailed) }
     ensures failed { has_failed writer.new ≡ is_err result }

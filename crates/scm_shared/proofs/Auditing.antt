@@ -7,11 +7,11 @@ use Rattle.std.proofs.lemmas.List.Elements.{All-append}
 use Rattle.scm_book.specs.declared.entry.Entry.{Entry}
 use Rattle.scm_book.specs.Calls.{EntryData, entry_data}
 use Rattle.scm_shared.specs.Passes.{Known}
-use Rattle.scm_shared.specs.Rule.{Fits}
-use Rattle.scm_shared.specs.Audits.{covers, AllFollow, Agree}
+use Rattle.scm_shared.specs.Rule.{FitsHistory}
+use Rattle.scm_shared.specs.Audits.{covers, AllMatchEntries, Agree}
 
 -- passes that fit the journal made just the calls of their sessions
-pub all_follow : (journal : List EntryData) (passes : List Known) → All (λ pass. Fits journal pass) passes → AllFollow passes journal
+pub all_follow : (journal : List EntryData) (passes : List Known) → All (λ pass. FitsHistory journal pass) passes → AllMatchEntries passes journal
 all_follow journal passes fit = λ k other within. sym (fit k other within).all
 
 -- it holds of one more pass
@@ -27,7 +27,7 @@ pub agrees : (passes : List Known) (entries : List EntryData) (journal : List En
     → IsTrue agreed ↔ Agree passes entries → IsTrue agreed ↔ Agree passes journal
 agrees passes entries journal agreed are exact = subst (λ (l : List EntryData). IsTrue agreed ↔ Agree passes l) are exact
 
-pub is_given : (passes : List Known) (journal : List EntryData) (agreed : Bool) → IsTrue agreed ↔ Agree passes journal → All (λ pass. Fits journal pass) passes
+pub is_given : (passes : List Known) (journal : List EntryData) (agreed : Bool) → IsTrue agreed ↔ Agree passes journal → All (λ pass. FitsHistory journal pass) passes
     → covers passes journal ≡ true → IsTrue agreed
 is_given passes journal agreed exact fit all = exact.1 (all, all_follow journal passes fit)
 
@@ -38,7 +38,7 @@ covered passes entries found is = is ∙ sym (list_all-map (λ (entry : EntryDat
 
 module _ (passes : List Known) (entries : List Entry) where
   pub agree-covered : (follow : Bool) → true ≡ list_all (λ (entry : Entry). list_any (λ (pass : Known). pass.number == entry.session) passes) entries
-      → IsTrue follow ↔ AllFollow passes (map entry_data entries) → IsTrue follow ↔ Agree passes (map entry_data entries)
+      → IsTrue follow ↔ AllMatchEntries passes (map entry_data entries) → IsTrue follow ↔ Agree passes (map entry_data entries)
   agree-covered follow all exact = ((λ yes. (sym (covered passes entries true all), exact.0 yes)), (λ agreed. exact.1 agreed.1))
 
   pub agree-uncovered : (found : Bool) → found ≡ list_all (λ (entry : Entry). list_any (λ (pass : Known). pass.number == entry.session) passes) entries → found ≡ false

@@ -6,7 +6,7 @@ use Rattle.scm_book.specs.Calls.{EntryData}
 use Rattle.scm_book.specs.Callers.{calls_by}
 use Rattle.scm_book.specs.laws.CallerLaws.{calls_by-entry_own, calls_by-entry_other}
 use Rattle.scm_shared.specs.Passes.{Known, newcomer, at_front}
-use Rattle.scm_shared.specs.Rule.{Fits, AllFit, AllGiven}
+use Rattle.scm_shared.specs.Rule.{FitsHistory, AllFitHistory, AllGiven}
 use Rattle.scm_shared.specs.Steps.{but_last, last_only, caught_up, called, all_caught_up, all_at_front}
 use Rattle.scm_shared.proofs.Sums.{times, mark-same, times-cons}
 use Rattle.scm_shared.proofs.Prefixes.{prefix_whole, prefix_nothing, prefix_longer}
@@ -16,19 +16,19 @@ off e = true≢false (sym e)
 
 -- ---- lists of passes
 
-pub AllFit-append : (log : List EntryData) (passes others : List Known) → AllFit log passes → AllFit log others → AllFit log (passes ++ others)
-AllFit-append log [] others fit more = more
-AllFit-append log (p ∷ passes) others fit more = (fit.0, AllFit-append log passes others fit.1 more)
+pub AllFitHistory-append : (log : List EntryData) (passes others : List Known) → AllFitHistory log passes → AllFitHistory log others → AllFitHistory log (passes ++ others)
+AllFitHistory-append log [] others fit more = more
+AllFitHistory-append log (p ∷ passes) others fit more = (fit.0, AllFitHistory-append log passes others fit.1 more)
 
-pub AllFit-but_last : (log : List EntryData) (passes : List Known) → AllFit log passes → AllFit log (but_last passes)
-AllFit-but_last log [] fit = tt
-AllFit-but_last log (p ∷ []) fit = tt
-AllFit-but_last log (p ∷ q ∷ passes) fit = (fit.0, AllFit-but_last log (q ∷ passes) fit.1)
+pub AllFitHistory-but_last : (log : List EntryData) (passes : List Known) → AllFitHistory log passes → AllFitHistory log (but_last passes)
+AllFitHistory-but_last log [] fit = tt
+AllFitHistory-but_last log (p ∷ []) fit = tt
+AllFitHistory-but_last log (p ∷ q ∷ passes) fit = (fit.0, AllFitHistory-but_last log (q ∷ passes) fit.1)
 
-pub AllFit-last_only : (log : List EntryData) (passes : List Known) → AllFit log passes → AllFit log (last_only passes)
-AllFit-last_only log [] fit = tt
-AllFit-last_only log (p ∷ []) fit = fit
-AllFit-last_only log (p ∷ q ∷ passes) fit = AllFit-last_only log (q ∷ passes) fit.1
+pub AllFitHistory-last_only : (log : List EntryData) (passes : List Known) → AllFitHistory log passes → AllFitHistory log (last_only passes)
+AllFitHistory-last_only log [] fit = tt
+AllFitHistory-last_only log (p ∷ []) fit = fit
+AllFitHistory-last_only log (p ∷ q ∷ passes) fit = AllFitHistory-last_only log (q ∷ passes) fit.1
 
 pub times-parted : (number : ℕ) (passes : List Known) → times number (but_last passes) + times number (last_only passes) ≡ times number passes
 times-parted number [] = refl
@@ -48,17 +48,17 @@ AllGiven-none_late entered (p ∷ passes) none = (
 
 -- ---- a new pass
 
-pub newcomer_fits : (log : List EntryData) (number : ℕ) → calls_by number log ≡ [] → Fits log (newcomer number)
+pub newcomer_fits : (log : List EntryData) (number : ℕ) → calls_by number log ≡ [] → FitsHistory log (newcomer number)
 newcomer_fits log number none = record { begins = prefix_nothing log; seen = omega arith; front = omega arith; own = refl; all = none }
 
 -- ---- a pass has seen all
 
-caught_up_fits : (log : List EntryData) (pass : Known) → Fits log pass → Fits log (caught_up log pass)
+caught_up_fits : (log : List EntryData) (pass : Known) → FitsHistory log pass → FitsHistory log (caught_up log pass)
 caught_up_fits log pass fit = record { begins = prefix_whole log; seen = omega arith; front = omega arith; own = fit.all; all = fit.all }
 
-pub AllFit-caught_up : (log : List EntryData) (passes : List Known) → AllFit log passes → AllFit log (all_caught_up log passes)
-AllFit-caught_up log [] fit = tt
-AllFit-caught_up log (p ∷ passes) fit = (caught_up_fits log p fit.0, AllFit-caught_up log passes fit.1)
+pub AllFitHistory-caught_up : (log : List EntryData) (passes : List Known) → AllFitHistory log passes → AllFitHistory log (all_caught_up log passes)
+AllFitHistory-caught_up log [] fit = tt
+AllFitHistory-caught_up log (p ∷ passes) fit = (caught_up_fits log p fit.0, AllFitHistory-caught_up log passes fit.1)
 
 pub times-caught_up : (number : ℕ) (log : List EntryData) (passes : List Known) → times number (all_caught_up log passes) ≡ times number passes
 times-caught_up number log [] = refl
@@ -67,14 +67,14 @@ times-caught_up number log (p ∷ passes) =
 
 -- ---- a pass is told a length
 
-at_front_fits : (log : List EntryData) (found : ℕ) (pass : Known) → length log ≡ found → Fits log pass → Fits log (at_front found pass)
+at_front_fits : (log : List EntryData) (found : ℕ) (pass : Known) → length log ≡ found → FitsHistory log pass → FitsHistory log (at_front found pass)
 at_front_fits log found pass is fit =
     let a = fit.seen in let b = fit.front in
     record { begins = fit.begins; seen = omega (arith, is, a, b); front = omega (arith, is); own = fit.own; all = fit.all }
 
-pub AllFit-at_front : (log : List EntryData) (found : ℕ) (passes : List Known) → length log ≡ found → AllFit log passes → AllFit log (all_at_front found passes)
-AllFit-at_front log found [] is fit = tt
-AllFit-at_front log found (p ∷ passes) is fit = (at_front_fits log found p is fit.0, AllFit-at_front log found passes is fit.1)
+pub AllFitHistory-at_front : (log : List EntryData) (found : ℕ) (passes : List Known) → length log ≡ found → AllFitHistory log passes → AllFitHistory log (all_at_front found passes)
+AllFitHistory-at_front log found [] is fit = tt
+AllFitHistory-at_front log found (p ∷ passes) is fit = (at_front_fits log found p is fit.0, AllFitHistory-at_front log found passes is fit.1)
 
 pub times-at_front : (number found : ℕ) (passes : List Known) → times number (all_at_front found passes) ≡ times number passes
 times-at_front number found [] = refl
@@ -84,14 +84,14 @@ times-at_front number found (p ∷ passes) =
 -- ---- an entry is added
 
 -- the pass that made the call
-pub called_fits : (log : List EntryData) (entry : EntryData) (pass : Known) → entry.session ≡ pass.number → Fits log pass
-    → Fits (log ++ entry ∷ []) (called entry (log ++ entry ∷ []) pass)
+pub called_fits : (log : List EntryData) (entry : EntryData) (pass : Known) → entry.session ≡ pass.number → FitsHistory log pass
+    → FitsHistory (log ++ entry ∷ []) (called entry (log ++ entry ∷ []) pass)
 called_fits log entry pass same fit =
     let calls = calls_by-entry_own pass.number log entry same ∙ ap (λ made. made ++ (entry.call, entry.reply) ∷ []) fit.all in
     record { begins = prefix_whole (log ++ entry ∷ []); seen = omega arith; front = omega arith; own = calls; all = calls }
 
 -- and another pass
-others_fit : (log : List EntryData) (entry : EntryData) (pass : Known) → entry.session ≢ pass.number → Fits log pass → Fits (log ++ entry ∷ []) pass
+others_fit : (log : List EntryData) (entry : EntryData) (pass : Known) → entry.session ≢ pass.number → FitsHistory log pass → FitsHistory (log ++ entry ∷ []) pass
 others_fit log entry pass apart fit =
     let front = fit.front in
     record {
@@ -102,10 +102,10 @@ others_fit log entry pass apart fit =
       all = calls_by-entry_other pass.number log entry apart ∙ fit.all;
     }
 
-pub AllFit-others : (log : List EntryData) (entry : EntryData) (passes : List Known) → times entry.session passes ≡ 0 → AllFit log passes → AllFit (log ++ entry ∷ []) passes
-AllFit-others log entry [] none fit = tt
-AllFit-others log entry (p ∷ passes) none fit =
+pub AllFitHistory-others : (log : List EntryData) (entry : EntryData) (passes : List Known) → times entry.session passes ≡ 0 → AllFitHistory log passes → AllFitHistory (log ++ entry ∷ []) passes
+AllFitHistory-others log entry [] none fit = tt
+AllFitHistory-others log entry (p ∷ passes) none fit =
     let cons = times-cons entry.session p passes in (
       others_fit log entry p (λ same. let one = mark-same p.number entry.session (sym same) in absurd (omega (arith, cons, none, one))) fit.0,
-      AllFit-others log entry passes (omega (arith, cons, none)) fit.1,
+      AllFitHistory-others log entry passes (omega (arith, cons, none)) fit.1,
     )

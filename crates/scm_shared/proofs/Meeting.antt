@@ -9,7 +9,7 @@ use Rattle.std.proofs.lemmas.List.Folds.{list_all-map, list_all_more, list_all_a
 use Rattle.scm_book.specs.declared.entry.Entry.{Entry}
 use Rattle.scm_book.specs.Calls.{EntryData, entry_data}
 use Rattle.scm_shared.specs.Passes.{Known, newcomer}
-use Rattle.scm_shared.specs.Audits.{pair_of, covers, AllFollow, Agree}
+use Rattle.scm_shared.specs.Audits.{pair_of, covers, AllMatchEntries, Agree}
 use Rattle.scm_shared.specs.Meeting.{AreInOrder, AreCounted}
 use Rattle.scm_shared.proofs.Following.{Follow, IsLeft, left-start, left-own, left-other, left-stops, left-end}
 
@@ -27,7 +27,7 @@ module _ (passes : List Known) (entries : List Entry) (order : AreInOrder passes
   all_left-start counts none k d within = subst (λ n. IsLeft k (get_or passes k d).made entries n 0) (sym (none k)) (left-start k (get_or passes k d).made entries)
 
   -- the calls of each pass, whose number is its place
-  follows_at : AllFollow passes (map entry_data entries) → (k : ℕ) (d : Known) → k < length passes → Follow k (get_or passes k d).made entries
+  follows_at : AllMatchEntries passes (map entry_data entries) → (k : ℕ) (d : Known) → k < length passes → Follow k (get_or passes k d).made entries
   follows_at follow k d within = subst (λ session. Follow session (get_or passes k d).made entries) (order.numbers k d within) (follow k d within)
 
   module _ (counts : List ℕ) (i : ℕ) (left : AreLeft passes entries counts i) where
@@ -36,7 +36,7 @@ module _ (passes : List Known) (entries : List Entry) (order : AreInOrder passes
       mine = subst (λ (p : Known). IsLeft e.session p.made entries (slice_index counts e.session) i) pass_is (left e.session pass there)
 
       -- the entry isn't the next call of its session's pass
-      pub all_left-stops : (slice_get pass.made (slice_index counts e.session) ≡ Some (pair_of (entry_data e)) → ⊥) → AllFollow passes (map entry_data entries) → ⊥
+      pub all_left-stops : (slice_get pass.made (slice_index counts e.session) ≡ Some (pair_of (entry_data e)) → ⊥) → AllMatchEntries passes (map entry_data entries) → ⊥
       all_left-stops apart follow =
           left-stops e.session pass.made entries (slice_index counts e.session) i mine e inside is refl apart
           (subst (λ (p : Known). Follow e.session p.made entries) pass_is (follows_at follow e.session pass there))
@@ -63,17 +63,17 @@ module _ (passes : List Known) (entries : List Entry) (order : AreInOrder passes
             (left-other k (get_or passes k d).made entries (slice_index counts k) i (left k d within) e inside is (λ same'. others (sym same')))
 
     -- no entry is left: the passes follow exactly where as many calls were counted as they made
-    pub all_left-end : length entries ≤ i → AreCounted passes counts ↔ AllFollow passes (map entry_data entries)
+    pub all_left-end : length entries ≤ i → AreCounted passes counts ↔ AllMatchEntries passes (map entry_data entries)
     all_left-end end = (there, back) where
       exact : (k : ℕ) (d : Known) → k < length passes → IsTrue (nat_eq (slice_index counts k) (length (get_or passes k d).made)) ↔ Follow k (get_or passes k d).made entries
       exact k d within = left-end k (get_or passes k d).made entries (slice_index counts k) i (left k d within) (length (get_or passes k d).made) refl end
 
-      there : AreCounted passes counts → AllFollow passes (map entry_data entries)
+      there : AreCounted passes counts → AllMatchEntries passes (map entry_data entries)
       there counted k d within =
           subst (λ session. Follow session (get_or passes k d).made entries) (sym (order.numbers k d within))
           ((exact k d within).0 (eq-eqb (slice_index counts k) (length (get_or passes k d).made) (sym (counted k d within))))
 
-      back : AllFollow passes (map entry_data entries) → AreCounted passes counts
+      back : AllMatchEntries passes (map entry_data entries) → AreCounted passes counts
       back follow k d within = sym (eqb-true (slice_index counts k) (length (get_or passes k d).made) ((exact k d within).1 (follows_at follow k d within)))
 
 not_equal : (a b : ℕ) → (a ≡ b → ⊥) → (a == b) ≡ false

@@ -16,14 +16,14 @@ use Rattle.scm_book.specs.Calls.{EntryData, entry_data}
 use Rattle.scm_book.specs.Callers.{calls_by}
 use Rattle.scm_book.specs.laws.CallerLaws.{calls_by-entry_other}
 use Rattle.scm_shared.specs.Passes.{Known, newcomer}
-use Rattle.scm_shared.specs.Rule.{SeatView, keeper, holder, nobody, AllGiven, FitsView, holds, KeptAs, Kept}
+use Rattle.scm_shared.specs.Rule.{SeatView, keeper, holder, nobody, AllGiven, FitsView, holds, KeptAs, HasOneHistory}
 use Rattle.scm_shared.specs.Steps.{with_one_more, next_newcomer, both, staying, parted, called, with_entry, TellsCommit, all_caught_up, TellsHistory, all_at_front, TellsFront}
 use Rattle.scm_shared.proofs.Sums.{sum_by-set, at_most_sum_by, two_at_most_sum_by, mark, mark-same, mark-other, times-append, times-one}
-use Rattle.scm_shared.proofs.Fitting.{off, AllFit-append, AllFit-but_last, AllFit-last_only, times-parted, newcomer_fits, AllFit-caught_up, times-caught_up, AllFit-at_front, times-at_front, called_fits, AllFit-others, AllGiven-none_late}
+use Rattle.scm_shared.proofs.Fitting.{off, AllFitHistory-append, AllFitHistory-but_last, AllFitHistory-last_only, times-parted, newcomer_fits, AllFitHistory-caught_up, times-caught_up, AllFitHistory-at_front, times-at_front, called_fits, AllFitHistory-others, AllGiven-none_late}
 
 -- the rule of the table
 abbrev Holds : State Entry SeatView → Type 0
-Holds s = Kept s.words s.views
+Holds s = HasOneHistory s.words s.views
 
 -- one seat's view is changed
 fits_set : (seat : ℕ) (log : List EntryData) (entered : ℕ) (views : List SeatView) (place : ℕ) (new : SeatView)
@@ -37,7 +37,7 @@ fits_set seat log entered views place new others mine j u at =
     (at_set views place j new u at)
 
 -- at the book's seat the rule holds of this seat and of what it knows
-anchored : (words : List ℕ) (views : List SeatView) (place : ℕ) (view : SeatView) → Kept words views → get_elem? views place ≡ some view → view.keeps ≡ true
+anchored : (words : List ℕ) (views : List SeatView) (place : ℕ) (view : SeatView) → HasOneHistory words views → get_elem? views place ≡ some view → view.keeps ≡ true
     → KeptAs words views place view.log view.entered
 anchored words views place view kept at is =
     let b = (kept.3.fits place view at).book is in
@@ -66,7 +66,7 @@ all_given words views seat log entered place view k at =
 
 -- ---- the start
 
-pub begins : Kept (0 ∷ []) (keeper [] 0 [] ∷ [])
+pub begins : HasOneHistory (0 ∷ []) (keeper [] 0 [] ∷ [])
 begins = (0, [], 0, record { word = refl; fits = one; once = λ n. omega arith; free = λ n late. (refl, refl) })
   where
     one : (place : ℕ) (view : SeatView) → get_elem? (keeper [] 0 [] ∷ []) place ≡ some view → FitsView 0 [] 0 place view
@@ -129,7 +129,7 @@ takes id view other theirs s kept at apart there =
         word = k.word;
         fits = fits_set seat log entered now other nobody
             (λ j u _ e. fits_set seat log entered s.views id joined (λ i v _ e'. k.fits i v e')
-            record { book = mine.book; passes = AllFit-append log view.passes theirs.passes mine.passes was.passes } j u e)
+            record { book = mine.book; passes = AllFitHistory-append log view.passes theirs.passes mine.passes was.passes } j u e)
             record { book = λ own. absurd (off own); passes = tt };
         once = λ n. let few = k.once n in omega (arith, few, sum n);
         free = λ n late. (sum n ∙ (k.free n late).0, (k.free n late).1);
@@ -155,9 +155,9 @@ parts id view s kept at =
         word = k.word;
         fits = λ j u e. ⊎_elim
             (λ was. fits_set seat log entered s.views id left (λ i v _ e'. k.fits i v e')
-            record { book = mine.book; passes = AllFit-but_last log view.passes mine.passes } j u was)
+            record { book = mine.book; passes = AllFitHistory-but_last log view.passes mine.passes } j u was)
             (λ (same : right ≡ u). subst (FitsView seat log entered j) same
-            record { book = λ own. absurd (off own); passes = AllFit-last_only log view.passes mine.passes })
+            record { book = λ own. absurd (off own); passes = AllFitHistory-last_only log view.passes mine.passes })
             (at_snoc now right u j e);
         once = λ n. let few = k.once n in omega (arith, few, sum n);
         free = λ n late. (sum n ∙ (k.free n late).0, (k.free n late).1);
@@ -185,7 +185,7 @@ learns slots id view is s kept size at small =
         view.log,
         view.entered,
         subst (λ (ws : List ℕ). KeptAs ws (set s.views id new) id view.log view.entered) (sym word.1)
-            (changed s.words s.views id view.log view.entered id view new k at record { book = λ _. (refl, refl, refl); passes = AllFit-caught_up view.log view.passes fit } (λ n. times-caught_up n view.log view.passes)),
+            (changed s.words s.views id view.log view.entered id view new k at record { book = λ _. (refl, refl, refl); passes = AllFitHistory-caught_up view.log view.passes fit } (λ n. times-caught_up n view.log view.passes)),
       ),
       (refl, fit, all_given s.words s.views id view.log view.entered id view k at),
     )
@@ -207,7 +207,7 @@ fronts slots id view s kept size at small =
         log,
         kept.2,
         subst (λ (ws : List ℕ). KeptAs ws (set s.views id new) kept.0 log kept.2) (sym word.1)
-            (changed s.words s.views kept.0 log kept.2 id view new k at record { book = mine.book; passes = AllFit-at_front log found view.passes (sym word.0) mine.passes } (λ n. times-at_front n found view.passes)),
+            (changed s.words s.views kept.0 log kept.2 id view new k at record { book = mine.book; passes = AllFitHistory-at_front log found view.passes (sym word.0) mine.passes } (λ n. times-at_front n found view.passes)),
       ),
       (refl, (log, sym word.0, mine.passes)),
     )
@@ -239,7 +239,7 @@ commits_kept words views id log entered pass entry own at k =
           let two = two_at_most_sum_by (holds entry.session) views id j old u apart at there in
           record {
             book = λ is. absurd (apart (fit.book is).0);
-            passes = AllFit-others log entry u.passes (omega (arith, few, two, here)) fit.passes;
+            passes = AllFitHistory-others log entry u.passes (omega (arith, few, two, here)) fit.passes;
           })
           record { book = λ _. (refl, refl, refl); passes = (called_fits log entry pass own (k.fits id old at).passes.0, tt) };
       once = λ n. let few = k.once n in omega (arith, few, sum n);

@@ -8,11 +8,11 @@ use Rattle.scm_book.specs.Journal.{count_of, entered, IsLegalHistory}
 use Rattle.scm_book.specs.Callers.{calls_by}
 use Rattle.scm_book.specs.laws.CallerLaws.{calls_by-entry_own}
 use Rattle.scm_shared.specs.Passes.{Known, known, Extended}
-use Rattle.scm_shared.specs.Rule.{Fits}
+use Rattle.scm_shared.specs.Rule.{FitsHistory}
 
 -- a pass that fitted the journal makes a call, and has seen the journal with it
 pub extended : (old : Known) (log now : List EntryData) (machine : Machine) (call : CallData) (reply : ReplyData) (number : ℕ) (made : List (CallData × ReplyData)) (seen : List EntryData) (front : ℕ)
-    → Fits log old → now ≡ entered log old.number call reply → IsLegalHistory now machine
+    → FitsHistory log old → now ≡ entered log old.number call reply → IsLegalHistory now machine
     → number ≡ old.number → made ≡ old.made ++ (call, reply) ∷ [] → seen ≡ now → front ≡ length now
     → Extended old call reply (known number made seen front)
 extended old log now machine call reply number made seen front fit is legal same one_more all long =

@@ -5,7 +5,7 @@ use Rattle.atomic_table.specs.Table.{Me}
 use Rattle.scm_book.specs.declared.entry.Entry.{Entry}
 use Rattle.scm_book.specs.Calls.{EntryData}
 use Rattle.scm_shared.specs.Passes.{Known}
-use Rattle.scm_shared.specs.Rule.{SeatView, keeper, holder, AllFit}
+use Rattle.scm_shared.specs.Rule.{SeatView, keeper, holder, AllFitHistory}
 use Rattle.scm_shared.specs.Steps.{both}
 use Rattle.scm_shared.specs.Seats.{IsPassOf, IsBooks}
 use Rattle.scm_shared.proofs.Prefixes.{prefix_either}
@@ -17,9 +17,9 @@ joined me now pass is books = is ∙ ap (λ (m : Me Entry SeatView). (both m.0 (
 
 -- two passes fit one history
 pub met_seen : (passes : List Known) (one other : Known) (found : ℕ) → passes ≡ one ∷ other ∷ []
-    → (log : List EntryData) × (length log ≡ found) × AllFit log passes → IsPrefix one.seen other.seen ⊎ IsPrefix other.seen one.seen
+    → (log : List EntryData) × (length log ≡ found) × AllFitHistory log passes → IsPrefix one.seen other.seen ⊎ IsPrefix other.seen one.seen
 met_seen passes one other found are fit =
-    let both_fit = subst (AllFit fit.0) are fit.2 in
+    let both_fit = subst (AllFitHistory fit.0) are fit.2 in
     prefix_either one.seen other.seen fit.0 both_fit.0.begins both_fit.1.0.begins
 
 abbrev passes_in : List SeatView → List Known

@@ -14,8 +14,8 @@ abbrev pub covers : List Known → List EntryData → Bool
 covers passes journal = list_all (λ entry. list_any (λ pass. pass.number == entry.session) passes) journal
 
 -- the calls that each pass made are its session's entries, in order
-abbrev pub AllFollow : List Known → List EntryData → Type 0
-AllFollow passes journal = All (λ pass. pass.made ≡ calls_by pass.number journal) passes
+abbrev pub AllMatchEntries : List Known → List EntryData → Type 0
+AllMatchEntries passes journal = All (λ pass. pass.made ≡ calls_by pass.number journal) passes
 
 abbrev pub Agree : List Known → List EntryData → Type 0
-Agree passes journal = (covers passes journal ≡ true) × AllFollow passes journal
+Agree passes journal = (covers passes journal ≡ true) × AllMatchEntries passes journal

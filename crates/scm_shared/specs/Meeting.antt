@@ -6,8 +6,8 @@ use Rattle.scm_shared.specs.Passes.{Known}
 use Rattle.scm_shared.specs.Audits.{pair_of}
 
 -- the next call that was kept is that of the entry
-abbrev pub IsNext : List KeptCall → ℕ → EntryData → Type 0
-IsNext kept next entry = slice_get (map kept_data kept) next ≡ Some (pair_of entry)
+abbrev pub IsNextCall : List KeptCall → ℕ → EntryData → Type 0
+IsNextCall kept next entry = slice_get (map kept_data kept) next ≡ Some (pair_of entry)
 
 -- the passes are those of the first sessions, in the order of their numbers
 pub record AreInOrder (passes : List Known) : Type 0 where

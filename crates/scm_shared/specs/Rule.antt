@@ -32,16 +32,16 @@ nobody = holder []
 
 -- a pass's history is a beginning of the whole one, and the length that it was told lies between the two. Its own calls are
 -- the entries of its session, and none of these lies beyond what it has seen
-pub record Fits (log : List EntryData) (pass : Known) : Type 0 where
+pub record FitsHistory (log : List EntryData) (pass : Known) : Type 0 where
   pub begins : IsPrefix pass.seen log
   pub seen : length pass.seen ≤ pass.front
   pub front : pass.front ≤ length log
   pub own : calls_by pass.number pass.seen ≡ pass.made
   pub all : calls_by pass.number log ≡ pass.made
 
-abbrev pub AllFit : List EntryData → List Known → Type 0
-AllFit log [] = ⊤
-AllFit log (pass ∷ others) = Fits log pass × AllFit log others
+abbrev pub AllFitHistory : List EntryData → List Known → Type 0
+AllFitHistory log [] = ⊤
+AllFitHistory log (pass ∷ others) = FitsHistory log pass × AllFitHistory log others
 
 -- so many passes entered: the numbers of these were given
 abbrev pub AllGiven : ℕ → List Known → Type 0
@@ -51,7 +51,7 @@ AllGiven entered (pass ∷ others) = (pass.number < entered) × AllGiven entered
 -- only this seat is the book's, and it knows the whole history; every pass fits it
 pub record FitsView (seat : ℕ) (log : List EntryData) (entered : ℕ) (place : ℕ) (view : SeatView) : Type 0 where
   pub book : view.keeps ≡ true → (place ≡ seat) × (view.log ≡ log) × (view.entered ≡ entered)
-  pub passes : AllFit log view.passes
+  pub passes : AllFitHistory log view.passes
 
 -- how many of a seat's passes have this number
 abbrev pub holds : ℕ → SeatView → ℕ
@@ -66,5 +66,5 @@ pub record KeptAs (words : List ℕ) (views : List SeatView) (seat : ℕ) (log :
   pub free : (number : ℕ) → entered ≤ number → (sum_by (holds number) views ≡ 0) × (calls_by number log ≡ [])
 
 -- there is one history for all seats
-abbrev pub Kept : List ℕ → List SeatView → Type 0
-Kept words views = (seat : ℕ) × (log : List EntryData) × (entered : ℕ) × KeptAs words views seat log entered
+abbrev pub HasOneHistory : List ℕ → List SeatView → Type 0
+HasOneHistory words views = (seat : ℕ) × (log : List EntryData) × (entered : ℕ) × KeptAs words views seat log entered

@@ -5,7 +5,7 @@ use Rattle.atomic_table.specs.Table.{Me, Step}
 use Rattle.scm_book.specs.declared.entry.Entry.{Entry}
 use Rattle.scm_book.specs.Calls.{EntryData, entry_data}
 use Rattle.scm_shared.specs.Passes.{Known, known, newcomer, at_front}
-use Rattle.scm_shared.specs.Rule.{SeatView, keeper, holder, AllFit, AllGiven}
+use Rattle.scm_shared.specs.Rule.{SeatView, keeper, holder, AllFitHistory, AllGiven}
 
 -- ---- enter: a new pass's seat is split off the book's
 
@@ -60,7 +60,7 @@ with_entry (some entry) view =
     keeper log view.entered (all_called (entry_data entry) log view.passes)
 
 abbrev pub TellsCommit : Step Entry → Me Entry SeatView → ℕ → Me Entry SeatView → Type 0
-TellsCommit step before found after = (after ≡ (with_entry step.said before.0, [])) × AllFit before.0.log before.0.passes
+TellsCommit step before found after = (after ≡ (with_entry step.said before.0, [])) × AllFitHistory before.0.log before.0.passes
 
 -- ---- a call that is refused for a full journal, audit: the book's seat with a pass looks at the word
 
@@ -71,7 +71,7 @@ all_caught_up log (pass ∷ others) = caught_up log pass ∷ all_caught_up log o
 abbrev pub TellsHistory : Step Entry → Me Entry SeatView → ℕ → Me Entry SeatView → Type 0
 TellsHistory step before found after =
     (after ≡ (keeper before.0.log before.0.entered (all_caught_up before.0.log before.0.passes), []))
-    × AllFit before.0.log before.0.passes
+    × AllFitHistory before.0.log before.0.passes
     × AllGiven before.0.entered before.0.passes
 
 -- ---- front, meet: a seat of passes looks at the word, without the lock
@@ -84,4 +84,4 @@ all_at_front found (pass ∷ others) = at_front found pass ∷ all_at_front foun
 abbrev pub TellsFront : Step Entry → Me Entry SeatView → ℕ → Me Entry SeatView → Type 0
 TellsFront step before found after =
     (after ≡ (record before.0 { passes = all_at_front found before.0.passes }, []))
-    × ((log : List EntryData) × (length log ≡ found) × AllFit log before.0.passes)
+    × ((log : List EntryData) × (length log ≡ found) × AllFitHistory log before.0.passes)

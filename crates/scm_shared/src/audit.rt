@@ -6,9 +6,9 @@ ghost use Rattle.scm_results.specs.declared.naming.TheConstants.{MOST_TALLIES};
 ghost use Rattle.scm_results.specs.Tallies.{AddUpTo};
 ghost use Rattle.scm_book.specs.Calls.{entry_data};
 ghost use Rattle.scm_book.specs.Journal.{IsLegalBook};
-ghost use Rattle.scm_shared.specs.Rule.{Fits};
+ghost use Rattle.scm_shared.specs.Rule.{FitsHistory};
 ghost use Rattle.scm_shared.specs.Seats.{IsBooks};
-ghost use Rattle.scm_shared.specs.Audits.{covers, AllFollow, Agree};
+ghost use Rattle.scm_shared.specs.Audits.{covers, AllMatchEntries, Agree};
 ghost use Rattle.scm_shared.specs.Meeting.{AreInOrder, AreCounted};
 
 use crate::comparing::{follows, is_next};
@@ -53,7 +53,7 @@ fn is_covered<B: BookNaming>(passes: &Vec<Pass<B>>, entries: &[Entry]) -> bool
 
 /// Whether the calls that each of these passes kept are its session's entries, in order.
 fn all_follow<B: BookNaming>(passes: &Vec<Pass<B>>, entries: &[Entry]) -> bool
-    ensures { IsTrue result ↔ AllFollow passes.now.items (map entry_data entries.now) }
+    ensures { IsTrue result ↔ AllMatchEntries passes.now.items (map entry_data entries.now) }
 {
     for pass in passes {
         if !follows(pass.number(), pass.kept(), entries) {
@@ -125,7 +125,7 @@ fn take_in<B: BookNaming>(
 )
     requires { (seat.old.table_id ≡ B.table) × IsBooks seat.old.me }
     ensures seat { (seat.new.table_id ≡ B.table) × (seat.new.me ≡ seat.old.me) }
-    ensures fits { Fits seat.old.me.0.log pass }
+    ensures fits { FitsHistory seat.old.me.0.log pass }
     ensures given { pass.number < seat.old.me.0.entered }
     ensures parts { (all.new.parts ≡ all.old.parts + 1) × (all.new.parts ≤ B.seats) }
     ensures amount { all.new.amount ≡ all.old.amount + length pass.made }
@@ -154,7 +154,7 @@ impl<B: BookNaming> Locked<B> {
         ensures tallies { result.tallies ≡ self.totals.given }
         ensures most_tallies { (vec_len tallies ≤ result.tallies) × (result.tallies ≤ MOST_TALLIES) }
         ensures legal { IsLegalBook result.book }
-        ensures fits { All (λ pass. Fits result.book.journal pass) passes.items }
+        ensures fits { All (λ pass. FitsHistory result.book.journal pass) passes.items }
         ensures numbers { All (λ pass. pass.number < result.entered) passes.items }
         ensures made { vec_len passes ≡ result.entered → sum_by (λ pass. length pass.made) passes.items ≡ length result.book.journal }
         ensures agreed { IsTrue result.agreed ↔ Agree passes.items result.book.journal }

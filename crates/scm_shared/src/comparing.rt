@@ -3,7 +3,7 @@ ghost use Rattle.std.specs.Prelude.{◌≡◌, ◌↔◌, IsTrue, map};
 ghost use Rattle.scm_book.specs.Calls.{entry_data, kept_data};
 ghost use Rattle.scm_book.specs.Callers.{calls_by};
 ghost use Rattle.scm_shared.specs.Audits.{pair_of};
-ghost use Rattle.scm_shared.specs.Meeting.{IsNext};
+ghost use Rattle.scm_shared.specs.Meeting.{IsNextCall};
 
 use scm_book::{Call, Entry, Reply};
 use std::sync::Arc;
@@ -17,7 +17,7 @@ fn is_of_entry(kept: &(Arc<Call>, Reply), entry: &Entry) -> bool
 
 /// Whether this is the call and the reply of the next that was kept.
 pub(crate) fn is_next(kept: &[(Arc<Call>, Reply)], next: usize, entry: &Entry) -> bool
-    ensures { IsTrue result ↔ IsNext kept.now next (entry_data entry.now) }
+    ensures { IsTrue result ↔ IsNextCall kept.now next (entry_data entry.now) }
 {
     next < kept.len() && is_of_entry(&kept[next], entry)
 }

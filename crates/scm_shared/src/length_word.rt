@@ -3,7 +3,7 @@ ghost use Rattle.std.specs.Prelude.{◌≡◌, ◌+◌, ◌<◌, ◌≤◌, ◌�
 ghost use mathlib.Core.List.{IsPrefix};
 ghost use Rattle.scm_book.specs.Calls.{EntryData, entry_data};
 ghost use Rattle.scm_shared.specs.Passes.{newcomer, at_front};
-ghost use Rattle.scm_shared.specs.Rule.{holder, Fits};
+ghost use Rattle.scm_shared.specs.Rule.{holder, FitsHistory};
 ghost use Rattle.scm_shared.specs.Steps.{both, staying, parted, caught_up, called};
 ghost use Rattle.scm_shared.specs.Seats.{known_in, IsPassOf, HasPass, IsKeeper, IsBooks};
 
@@ -59,7 +59,7 @@ impl<B: BookNaming> LengthWord<B> {
         requires count { count ≡ length seat.old.me.0.log + 1 }
         ensures seat { (seat.new.table_id ≡ B.table) × IsKeeper seat.new.me (seat.old.me.0.log ++ entry_data entry.now ∷ []) seat.old.me.0.entered }
         ensures badge { (badge.new.table_id ≡ B.table) × IsPassOf badge.new.views (called (entry_data entry.now) (seat.old.me.0.log ++ entry_data entry.now ∷ []) (known_in badge.old.views)) }
-        ensures fits { Fits seat.old.me.0.log (known_in badge.old.views) }
+        ensures fits { FitsHistory seat.old.me.0.log (known_in badge.old.views) }
     {
         self.join(seat, badge);
         self.table
@@ -82,7 +82,7 @@ impl<B: BookNaming> LengthWord<B> {
         ensures count { result ≡ length entries.now }
         ensures seat { (seat.new.table_id ≡ B.table) × IsKeeper seat.new.me (map entry_data entries.now) seat.old.me.0.entered }
         ensures badge { (badge.new.table_id ≡ B.table) × ((last : EntryData) → map entry_data entries.now ≡ seat.old.me.0.log ++ last ∷ [] → IsPassOf badge.new.views (called last (map entry_data entries.now) (known_in badge.old.views))) }
-        ensures fits { Fits seat.old.me.0.log (known_in badge.old.views) }
+        ensures fits { FitsHistory seat.old.me.0.log (known_in badge.old.views) }
     {
         let count = entries.len();
         self.commit(seat, badge, &entries[count - 1], count as u64);
@@ -95,7 +95,7 @@ impl<B: BookNaming> LengthWord<B> {
         requires badge { (badge.old.table_id ≡ B.table) × HasPass badge.old.views }
         ensures seat { (seat.new.table_id ≡ B.table) × (seat.new.me ≡ seat.old.me) }
         ensures badge { (badge.new.table_id ≡ B.table) × IsPassOf badge.new.views (caught_up seat.old.me.0.log (known_in badge.old.views)) }
-        ensures fits { Fits seat.old.me.0.log (known_in badge.old.views) }
+        ensures fits { FitsHistory seat.old.me.0.log (known_in badge.old.views) }
         ensures given { (known_in badge.old.views).number < seat.old.me.0.entered }
     {
         self.join(seat, badge);

@@ -22,9 +22,9 @@ pub struct Law;
 
 impl TableRule<Entry, View, ()> for Law {
     ghost use Rattle.std.specs.Prelude.{[]};
-    ghost use Rattle.scm_shared.specs.Rule.{keeper, Kept};
+    ghost use Rattle.scm_shared.specs.Rule.{keeper, HasOneHistory};
 
-    ghost holds = { λ _. λ s. Kept s.words s.views };
+    ghost holds = { λ _. λ s. HasOneHistory s.words s.views };
 
     ghost first = { λ _. keeper [] 0 [] };
 }

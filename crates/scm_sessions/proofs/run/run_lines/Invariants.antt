@@ -1,6 +1,6 @@
 use Rattle.std.proofs.Common.{◌≡◌, false}
 use Rattle.scm_sessions.specs.Ports.{inner_of, has_failed}
-use Rattle.scm_sessions.specs.Reading.{left_of, budget_of}
+use Rattle.scm_sessions.specs.Reading.{left_of, most_bytes_left}
 use Rattle.scm_sessions.proofs.Running.{HasRun}
 use Rattle.scm_sessions.proofs.run.run_lines.Given as goal
 
@@ -14,4 +14,4 @@ invariant-each g l = record {
 }
 
 abbrev pub decreases-each : goal.decreases-each
-decreases-each g l = budget_of l.lines l.reader
+decreases-each g l = most_bytes_left l.lines l.reader

@@ -1,6 +1,6 @@
 use Rattle.std.proofs.Common.{◌≡◌, false}
 use Rattle.scm_sessions.specs.Ports.{inner_of, has_failed}
-use Rattle.scm_sessions.specs.Reading.{left_of, budget_of}
+use Rattle.scm_sessions.specs.Reading.{left_of, most_bytes_left}
 use Rattle.scm_sessions.proofs.Grouping.{HasGrouped}
 use Rattle.scm_sessions.proofs.groups.Groups.read.Given as goal
 
@@ -12,4 +12,4 @@ invariant-each g l = record {
 }
 
 abbrev pub decreases-each : goal.decreases-each
-decreases-each g l = budget_of l.lines l.reader
+decreases-each g l = most_bytes_left l.lines l.reader

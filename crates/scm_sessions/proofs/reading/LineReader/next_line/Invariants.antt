@@ -1,7 +1,7 @@
 use Rattle.std.proofs.Common.{◌≡◌, ◌≤◌, length}
 use Rattle.scm_sequences.specs.declared.limits.TheConstants.{LONGEST_LINE}
 use Rattle.scm_sessions.specs.Ports.{has_failed}
-use Rattle.scm_sessions.specs.Reading.{left_of, budget_of}
+use Rattle.scm_sessions.specs.Reading.{left_of, most_bytes_left}
 use Rattle.scm_sessions.proofs.Gathering.{HasGathered}
 use Rattle.scm_sessions.proofs.reading.LineReader.next_line.Given as goal
 
@@ -10,9 +10,9 @@ abbrev pub invariant-loop-self : goal.invariant-loop-self
 invariant-loop-self g l = record {
   gathered : HasGathered (left_of g.R.Read.remaining l.fn.self l.fn.port) (left_of g.R.Read.remaining l.self l.port) l.self.line.items l.self.is_long;
   room : length l.self.line.items ≤ LONGEST_LINE;
-  budget : budget_of l.self l.port ≤ budget_of l.fn.self l.fn.port;
+  budget : most_bytes_left l.self l.port ≤ most_bytes_left l.fn.self l.fn.port;
   failed : has_failed l.port ≡ has_failed l.fn.port;
 }
 
 abbrev pub decreases-loop-self : goal.decreases-loop-self
-decreases-loop-self g l = budget_of l.self l.port
+decreases-loop-self g l = most_bytes_left l.self l.port

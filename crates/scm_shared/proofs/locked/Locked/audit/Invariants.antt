@@ -1,7 +1,7 @@
 use Rattle.std.proofs.Common.{◌≡◌, ◌+◌, ◌<◌, ◌≤◌, length, sum_by}
 use Rattle.std.specs.Prelude.{All}
 use Rattle.scm_sequences.specs.declared.limits.TheConstants.{MOST_SESSIONS}
-use Rattle.scm_shared.specs.Rule.{Fits}
+use Rattle.scm_shared.specs.Rule.{FitsHistory}
 use Rattle.scm_shared.specs.Seats.{IsKeeper}
 use Rattle.scm_shared.proofs.locked.Locked.audit.Given as goal
 
@@ -10,7 +10,7 @@ abbrev pub invariant-loop-pass : goal.invariant-loop-pass
 invariant-loop-pass g l =
     (l.seat.table_id ≡ g.B.BookNaming.table)
     × IsKeeper l.seat.me l.book.journal l.entered
-    × All (λ pass. Fits l.book.journal pass) l.yielded
+    × All (λ pass. FitsHistory l.book.journal pass) l.yielded
     × (l.all.parts + l.entered ≡ MOST_SESSIONS + 1 + length l.yielded)
     × (l.all.amount ≡ sum_by (λ pass. length pass.made) l.yielded)
     × All (λ pass. pass.number < l.entered) l.yielded

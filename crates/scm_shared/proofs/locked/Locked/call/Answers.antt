@@ -3,7 +3,7 @@ use Rattle.std.proofs.lemmas.List.{length-map}
 use Rattle.scm_book.specs.Calls.{EntryData, KeptCall, call_data, reply_data, entry_data}
 use Rattle.scm_book.specs.Journal.{entered}
 use Rattle.scm_shared.specs.Passes.{Known}
-use Rattle.scm_shared.specs.Rule.{Fits, SeatView}
+use Rattle.scm_shared.specs.Rule.{FitsHistory, SeatView}
 use Rattle.scm_shared.specs.Seats.{known_in}
 use Rattle.scm_shared.proofs.Passing.{extended, kept_more, seen_all}
 use Rattle.scm_shared.proofs.locked.Locked.call.Goals as goal
@@ -13,7 +13,7 @@ returns-in-Some-clause-made g c makes =
     let log : List EntryData = c.self.inside.book.journal in
     let pass : known_in c.pass.inside.badge.views ≡ c.args.pass.now = ap known_in c.pass.invariant.1 ∙ c.pass.view_is in
     let whole : c.self.inside.seat.me.0.log ≡ log = ap (λ me. me.0.log) c.self.invariant.1 in
-    let fit : Fits log c.args.pass.now = subst (λ (x : List EntryData × Known). Fits x.0 x.1) (λ i. (whole i, pass i)) c.commit_last-front.ensures.fits in
+    let fit : FitsHistory log c.args.pass.now = subst (λ (x : List EntryData × Known). FitsHistory x.0 x.1) (λ i. (whole i, pass i)) c.commit_last-front.ensures.fits in
     let number : c.pass.inside.number ≡ c.args.pass.now.number = ap (λ (k : Known). k.number) c.pass.view_is in
     let entry = c.call_kept-reply.ensures.called.entry makes ∙ ap (λ (n : ℕ). entered log n (call_data c.args.call) (reply_data c.call_kept-reply.result.0)) number in
     let kept = rw c.in-Some.is at c.call_kept-reply.ensures.kept in
