@@ -11,6 +11,7 @@ use Rattle.scm_amo.specs.Amos.{amo_of_name}
 use Rattle.scm_lowering.specs.declared.access.Access.{Access}
 use Rattle.scm_lowering.specs.declared.access.Access.TheVariants.{Load, Store, Amo, ReadWrite}
 
+-- a word as a name, where it is one
 abbrev pub name_of_word : List ℕ → Option (List ℕ)
 name_of_word word = if is_name word then Some word else None
 

@@ -5,6 +5,7 @@ use Rattle.std.specs.Option.{option_map, option_or}
 use Rattle.std.specs.Prelude.{slice_get, drop}
 use Rattle.std.proofs.lemmas.List.{map-append}
 use Rattle.std.proofs.lemmas.List.Folds.{list_any-append}
+use Rattle.scm_results.specs.Totals.{capped}
 use Rattle.scm_book.specs.Calls.{ReplyData}
 use Rattle.scm_sessions.specs.declared.findings.Findings.{Findings}
 use Rattle.scm_sessions.specs.declared.findings.RefusedLine.{RefusedLine}
@@ -12,7 +13,6 @@ use Rattle.scm_sessions.specs.Lines.{Line}
 use Rattle.scm_sessions.specs.Asking.{Asked, asked_by}
 use Rattle.scm_sessions.specs.Exchanges.{Exchange, has_reply, asked_in, asked_of}
 use Rattle.scm_sessions.specs.Findings.{replies_of, numbers_from, refusal_of_reply, refused_line, first_refused, answers_inconsistent, answers_undecided, findings_of, with_answer}
-use Rattle.scm_sessions.specs.Numbered.{told}
 
 cons≢nil : {X : Type 0} (x : X) (xs : List X) → x ∷ xs ≡ [] → ⊥
 cons≢nil {X = X} x xs e = true≢false (ap (λ (ys : List X). is_some (slice_get ys 0)) e)
@@ -83,8 +83,8 @@ pub same_findings : (a b : ℕ) (r s : Option RefusedLine) (i j u v : Bool) → 
 same_findings a b r s i j u v lines refused inconsistent undecided =
     ap (λ x. findings x r i u) lines ∙ ap (λ x. findings b x i u) refused ∙ ap (λ x. findings b s x u) inconsistent ∙ ap (λ x. findings b s j x) undecided
 
-pub told_more : (lines : List Line) (line : Line) → told (length (lines ++ line ∷ [])) ≡ told (told (length lines) + 1)
-told_more lines line = simp length-append (omega arith)
+pub capped_more : (lines : List Line) (line : Line) → capped (length (lines ++ line ∷ [])) ≡ capped (capped (length lines) + 1)
+capped_more lines line = simp length-append (omega arith)
 
 any-append : (test : ReplyData → Bool) (exchanges more : List Exchange)
     → list_any test (replies_of (exchanges ++ more)) ≡ (list_any test (replies_of exchanges) || list_any test (replies_of more))
@@ -93,9 +93,9 @@ any-append test exchanges more =
 
 -- the last line's refusal
 last_refused : (lines : List Line) (line : Line) (e : Exchange) → has_reply (asked_by line) ≡ true
-    → first_from (1 + length lines) (line ∷ []) (e ∷ []) ≡ refused_line (told (told (length lines) + 1)) e.reply
+    → first_from (1 + length lines) (line ∷ []) (e ∷ []) ≡ refused_line (capped (capped (length lines) + 1)) e.reply
 last_refused lines line e has =
-    let number : told (1 + length lines) ≡ told (told (told (length lines) + 1)) = omega arith in
+    let number : capped (1 + length lines) ≡ capped (capped (capped (length lines) + 1)) = omega arith in
     ap (λ (b : Bool). first_refused (zip (if b then (1 + length lines) ∷ [] else []) (replies_of (e ∷ [])))) has
     ∙ option_or_none (refused_line (1 + length lines) e.reply)
     ∙ ap (λ n. option_map (λ refusal. record { number = n; refusal = refusal }) (refusal_of_reply e.reply)) number
@@ -107,14 +107,14 @@ found_where : (has : Bool) (lines : List Line) (exchanges : List Exchange) (line
     → asked_of exchanges ≡ asked_in lines → asked_of more ≡ asked_where has (asked_by line) []
     → findings_of (lines ++ line ∷ []) (exchanges ++ more) ≡ with_answer (findings_of lines exchanges) (replies_of more)
 found_where false lines exchanges line [] has same alone =
-    same_findings _ _ _ _ _ _ _ _ (told_more lines line)
+    same_findings _ _ _ _ _ _ _ _ (capped_more lines line)
     (first-append lines 1 line [] exchanges same ∙ ap (option_or (first_from 1 lines exchanges)) (none_refused lines line has) ∙ option_or_none (first_from 1 lines exchanges))
     (any-append answers_inconsistent exchanges [] ∙ or_none (list_any answers_inconsistent (replies_of exchanges)))
     (any-append answers_undecided exchanges [] ∙ or_none (list_any answers_undecided (replies_of exchanges)))
 found_where false lines exchanges line (e ∷ more) has same alone = absurd (cons≢nil e.asked (asked_of more) alone)
 found_where true lines exchanges line [] has same alone = absurd (cons≢nil (asked_by line) [] (sym alone))
 found_where true lines exchanges line (e ∷ []) has same alone =
-    same_findings _ _ _ _ _ _ _ _ (told_more lines line)
+    same_findings _ _ _ _ _ _ _ _ (capped_more lines line)
     (first-append lines 1 line (e ∷ []) exchanges same ∙ ap (option_or (first_from 1 lines exchanges)) (last_refused lines line e has))
     (any-append answers_inconsistent exchanges (e ∷ []) ∙ or_last (list_any answers_inconsistent (replies_of exchanges)) (answers_inconsistent e.reply))
     (any-append answers_undecided exchanges (e ∷ []) ∙ or_last (list_any answers_undecided (replies_of exchanges)) (answers_undecided e.reply))

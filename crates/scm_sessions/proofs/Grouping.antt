@@ -6,17 +6,18 @@ use Rattle.std.specs.Io.KnownBytes.{Consumes, Keeps, IsAtEnd, prepend_known}
 use Rattle.std.proofs.KnownBytes.{Consumes-nil, Consumes-trans, Consumes-kept, prepend_known-nil}
 use Rattle.std.proofs.lemmas.List.Elements.{filter-append}
 use Rattle.scm_cells.specs.Names.{name_eq}
+use Rattle.scm_results.specs.Totals.{capped}
 use Rattle.scm_sessions.specs.declared.reading.Cut.TheVariants.{Whole, Last}
 use Rattle.scm_sessions.specs.Lines.{Line, line_of, HasNoFeed}
 use Rattle.scm_sessions.specs.declared.findings.Findings.{Findings}
 use Rattle.scm_sessions.specs.Asking.{asked_by, name_in}
 use Rattle.scm_sessions.specs.Exchanges.{has_reply}
-use Rattle.scm_sessions.specs.Numbered.{Numbered, numbered, numbered_from, numbered_in, replied, told}
+use Rattle.scm_sessions.specs.Numbered.{Numbered, numbered, numbered_from, numbered_in, replied}
 use Rattle.scm_sessions.specs.Findings.{unanswered, with_line}
 use Rattle.scm_sessions.specs.Reading.{TakesLine}
 use Rattle.scm_sessions.specs.Groups.{Group, group, has_name, with_numbered, groups_of, with_group, with_next, group_names, GroupsWhole, GroupsWholeLines}
 use Rattle.scm_sessions.proofs.Cutting.{AreLines, AreLines-nil, AreLines-more, lines_of-end, lines_of-last, whole_lines_of-part}
-use Rattle.scm_sessions.proofs.Finding.{findings, told_more}
+use Rattle.scm_sessions.proofs.Finding.{findings, capped_more}
 use Rattle.scm_sessions.proofs.Running.{end_after}
 
 -- ---- places
@@ -158,29 +159,29 @@ fold_on f start [] ys = refl
 fold_on f start (x ∷ xs) ys = fold_on f (f start x) xs ys
 
 numbered_from-more : (n : ℕ) (lines : List Line) (line : Line)
-    → numbered_from n (lines ++ line ∷ []) ≡ numbered_from n lines ++ numbered (told (n + length lines)) (asked_by line) ∷ []
+    → numbered_from n (lines ++ line ∷ []) ≡ numbered_from n lines ++ numbered (capped (n + length lines)) (asked_by line) ∷ []
 numbered_from-more n [] line =
-    let is : n ≡ n + 0 = omega arith in ap (λ (k : ℕ). numbered (told k) (asked_by line) ∷ []) is
+    let is : n ≡ n + 0 = omega arith in ap (λ (k : ℕ). numbered (capped k) (asked_by line) ∷ []) is
 numbered_from-more n (l ∷ lines) line =
     let is : n + 1 + length lines ≡ n + length (l ∷ lines) = omega arith in
-    ap (λ (ls : List Numbered). numbered (told n) (asked_by l) ∷ ls)
+    ap (λ (ls : List Numbered). numbered (capped n) (asked_by l) ∷ ls)
     (numbered_from-more (n + 1) lines line
-    ∙ ap (λ (k : ℕ). numbered_from (n + 1) lines ++ numbered (told k) (asked_by line) ∷ []) is)
+    ∙ ap (λ (k : ℕ). numbered_from (n + 1) lines ++ numbered (capped k) (asked_by line) ∷ []) is)
 
 -- the next line has the number after those that were counted
 numbered_in-more : (lines : List Line) (line : Line)
-    → numbered_in (lines ++ line ∷ []) ≡ numbered_in lines ++ replied (numbered (told (told (length lines) + 1)) (asked_by line) ∷ [])
+    → numbered_in (lines ++ line ∷ []) ≡ numbered_in lines ++ replied (numbered (capped (capped (length lines) + 1)) (asked_by line) ∷ [])
 numbered_in-more lines line =
-    let number : told (1 + length lines) ≡ told (told (length lines) + 1) = omega arith in
+    let number : capped (1 + length lines) ≡ capped (capped (length lines) + 1) = omega arith in
     ap replied (numbered_from-more 1 lines line ∙ ap (λ (k : ℕ). numbered_from 1 lines ++ numbered k (asked_by line) ∷ []) number)
-    ∙ filter-append (λ (l : Numbered). has_reply l.asked) (numbered_from 1 lines) (numbered (told (told (length lines) + 1)) (asked_by line) ∷ [])
+    ∙ filter-append (λ (l : Numbered). has_reply l.asked) (numbered_from 1 lines) (numbered (capped (capped (length lines) + 1)) (asked_by line) ∷ [])
 
 -- the groups of these lines and one more
 groups_more : (lines : List Line) (line : Line)
-    → with_next (groups_of (numbered_in lines)) (told (told (length lines) + 1)) line ≡ groups_of (numbered_in (lines ++ line ∷ []))
+    → with_next (groups_of (numbered_in lines)) (capped (capped (length lines) + 1)) line ≡ groups_of (numbered_in (lines ++ line ∷ []))
 groups_more lines line =
     sym (ap groups_of (numbered_in-more lines line)
-    ∙ fold_on with_numbered [] (numbered_in lines) (replied (numbered (told (told (length lines) + 1)) (asked_by line) ∷ [])))
+    ∙ fold_on with_numbered [] (numbered_in lines) (replied (numbered (capped (capped (length lines) + 1)) (asked_by line) ∷ [])))
 
 -- bytes were taken from a script and are lines, which were counted and stand in their groups
 pub record HasGrouped (script left : Option (List ℕ)) (groups : List Group) (found : Findings) : Type 0 where
@@ -206,15 +207,15 @@ HasGrouped-start unread script groups found none new uncounted = record {
 more_counted : (found after : Findings) (lines : List Line) (line : Line) → found ≡ unanswered (length lines) → after ≡ with_line found
     → after ≡ unanswered (length (lines ++ line ∷ []))
 more_counted found after lines line had counts =
-    counts ∙ ap with_line had ∙ ap (λ (n : ℕ). findings n None false false) (sym (told_more lines line))
+    counts ∙ ap with_line had ∙ ap (λ (n : ℕ). findings n None false false) (sym (capped_more lines line))
 
 more_grouped : (before : List Group) (lines : List Line) (line : Line) (piece : List ℕ) (after : List Group) (found counted : Findings)
     → before ≡ groups_of (numbered_in lines) → line ≡ line_of piece → found ≡ unanswered (length lines) → counted ≡ with_line found
     → after ≡ with_next before counted.lines line → after ≡ groups_of (numbered_in (lines ++ line_of piece ∷ []))
 more_grouped before lines line piece after found counted had is uncounted counts put =
-    let number : counted.lines ≡ told (told (length lines) + 1) = ap (λ (f : Findings). f.lines) (counts ∙ ap with_line uncounted) in
+    let number : counted.lines ≡ capped (capped (length lines) + 1) = ap (λ (f : Findings). f.lines) (counts ∙ ap with_line uncounted) in
     put ∙ ap₂ (λ (gs : List Group) (k : ℕ). with_next gs k line) had number
-    ∙ ap (with_next (groups_of (numbered_in lines)) (told (told (length lines) + 1))) is ∙ groups_more lines (line_of piece)
+    ∙ ap (with_next (groups_of (numbered_in lines)) (capped (capped (length lines) + 1))) is ∙ groups_more lines (line_of piece)
 
 module _ {script left : Option (List ℕ)} {before : List Group} {found : Findings} (had : HasGrouped script left before found) where
   -- one more whole line

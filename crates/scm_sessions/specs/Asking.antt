@@ -6,7 +6,7 @@ use Rattle.scm_cells.specs.declared.width.Width.TheVariants.{W, D}
 use Rattle.scm_cells.specs.Names.{is_name}
 use Rattle.scm_cells.specs.Numbers.{count_of_word}
 use Rattle.scm_cells.specs.Initials.{initial_of_word}
-use Rattle.scm_lowering.specs.Accesses.{access_of_words}
+use Rattle.scm_lowering.specs.Accesses.{name_of_word, access_of_words}
 use Rattle.scm_book.specs.declared.call.Decl.{Decl}
 use Rattle.scm_book.specs.Calls.{CallData, call_data, opens, claims, releases, reports, sets_mark, goes_back, raises, asks, asks_why, asks_cycle, shows, lists, closes}
 use Rattle.scm_sessions.specs.declared.asking.Asked.{Asked as AskedLine}
@@ -14,7 +14,7 @@ use Rattle.scm_sessions.specs.declared.asking.Asked.TheVariants.{Nothing, Bad, G
 use Rattle.scm_sessions.specs.declared.commands.Command.{Command}
 use Rattle.scm_sessions.specs.declared.commands.Command.TheVariants.{OpenTrace, ClaimProcess, ReleaseProcess, Report, SetMark, GoBack, RaiseBudget, Ask, Why, Cycle, ShowOps, ListTraces, CloseTrace}
 use Rattle.scm_sessions.specs.Lines.{Line, too_long, text}
-use Rattle.scm_sessions.specs.Words.{words_of, name_of_word}
+use Rattle.scm_sessions.specs.Words.{words_of}
 use Rattle.scm_sessions.specs.Commands.{command_of_word}
 
 pub data Asked : Type 0 where

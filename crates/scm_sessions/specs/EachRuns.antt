@@ -3,11 +3,12 @@
 use Rattle.std.specs.Prelude.{ℕ, ◌≡◌, ◌⊎◌, List, length, Option}
 use Rattle.std.specs.List.{list_any, zip}
 use Rattle.std.specs.Io.KnownBytes.{Consumes, Appends, IsAtEnd}
+use Rattle.scm_results.specs.Totals.{capped}
 use Rattle.scm_sessions.specs.declared.findings.Findings.{Findings}
 use Rattle.scm_sessions.specs.Lines.{Line, lines_of, whole_lines_of}
 use Rattle.scm_sessions.specs.Exchanges.{Exchange, asked_of, replies_text}
 use Rattle.scm_sessions.specs.Ports.{AppendsPart}
-use Rattle.scm_sessions.specs.Numbered.{told, numbered_in, all_asked, all_numbers}
+use Rattle.scm_sessions.specs.Numbered.{numbered_in, all_asked, all_numbers}
 use Rattle.scm_sessions.specs.Findings.{replies_of, earliest_refused, answers_inconsistent, answers_undecided}
 use Rattle.scm_sessions.specs.Groups.{grouped}
 
@@ -25,7 +26,7 @@ pub record RunsGroups (script left written after : Option (List ℕ)) (Run : Lis
 -- number, whatever group it stands in
 abbrev pub group_findings_of : List Line → List Exchange → Findings
 group_findings_of lines exchanges = record {
-  lines = told (length lines);
+  lines = capped (length lines);
   refused = earliest_refused (zip (all_numbers (grouped (numbered_in lines))) (replies_of exchanges));
   is_inconsistent = list_any answers_inconsistent (replies_of exchanges);
   is_undecided = list_any answers_undecided (replies_of exchanges);

@@ -4,13 +4,13 @@ use Rattle.std.specs.Prelude.{ℕ, ◌≡◌, ◌+◌, List, [], ◌∷◌, leng
 use Rattle.std.specs.List.{list_any, zip}
 use Rattle.std.specs.Option.{option_map, option_or}
 use Rattle.scm_sequences.specs.declared.refusal.Refusal.{Refusal}
+use Rattle.scm_results.specs.Totals.{capped}
 use Rattle.scm_book.specs.Calls.{ReplyData, inconsistent, undecided, because, cycle, refused}
 use Rattle.scm_sessions.specs.declared.findings.Findings.{Findings}
 use Rattle.scm_sessions.specs.declared.findings.RefusedLine.{RefusedLine}
 use Rattle.scm_sessions.specs.Lines.{Line, lines_of}
 use Rattle.scm_sessions.specs.Asking.{asked_by}
 use Rattle.scm_sessions.specs.Exchanges.{Exchange, has_reply, RunsWhole}
-use Rattle.scm_sessions.specs.Numbered.{told}
 
 abbrev pub replies_of : List Exchange → List ReplyData
 replies_of exchanges = map (λ e. e.reply) exchanges
@@ -37,7 +37,7 @@ answers_undecided reply = false
 
 -- the line of this number, where it was refused
 abbrev pub refused_line : ℕ → ReplyData → Option RefusedLine
-refused_line n reply = option_map (λ refusal. record { number = told n; refusal = refusal }) (refusal_of_reply reply)
+refused_line n reply = option_map (λ refusal. record { number = capped n; refusal = refusal }) (refusal_of_reply reply)
 
 -- the first of the replies that is a refusal, each reply with the number of its line
 abbrev pub first_refused : List (ℕ × ReplyData) → Option RefusedLine
@@ -47,7 +47,7 @@ first_refused (line ∷ lines) = option_or (refused_line line.0 line.1) (first_r
 -- what a run over these lines found, whose exchanges these are
 abbrev pub findings_of : List Line → List Exchange → Findings
 findings_of lines exchanges = record {
-  lines = told (length lines);
+  lines = capped (length lines);
   refused = first_refused (zip (numbers_from 1 lines) (replies_of exchanges));
   is_inconsistent = list_any answers_inconsistent (replies_of exchanges);
   is_undecided = list_any answers_undecided (replies_of exchanges);
@@ -69,7 +69,7 @@ pub record FindsWhole (script left written after : Option (List ℕ)) (Run : Lis
 
 -- one line more
 abbrev pub with_line : Findings → Findings
-with_line found = record found { lines = told (found.lines + 1) }
+with_line found = record found { lines = capped (found.lines + 1) }
 
 -- the reply to the last line
 abbrev pub with_last_reply : Findings → ReplyData → Findings
@@ -99,7 +99,7 @@ earliest_refused (line ∷ lines) = earlier (refused_line line.0 line.1) (earlie
 
 -- what is found where so many lines were read, and none is answered yet
 abbrev pub unanswered : ℕ → Findings
-unanswered lines = record { lines = told lines; refused = None; is_inconsistent = false; is_undecided = false }
+unanswered lines = record { lines = capped lines; refused = None; is_inconsistent = false; is_undecided = false }
 
 -- what these replies say, each with the number of its line
 abbrev pub found_in : List (ℕ × ReplyData) → Findings

@@ -1,16 +1,13 @@
 -- The lines of a script with their numbers. This project's profile.
-use Rattle.std.specs.Prelude.{ℕ, ◌+◌, ◌-◌, ◌^◌, min, List, [], ◌∷◌, map, filter}
+use Rattle.std.specs.Prelude.{ℕ, ◌+◌, List, [], ◌∷◌, map, filter}
+use Rattle.scm_results.specs.Totals.{capped}
 use Rattle.scm_sessions.specs.declared.numbered.NumberedLine.{NumberedLine}
 use Rattle.scm_sessions.specs.Lines.{Line}
 use Rattle.scm_sessions.specs.Asking.{Asked, asked_by, asked_data}
 use Rattle.scm_sessions.specs.Exchanges.{has_reply}
 
--- numbers of lines are told up to 2^64 - 1
-abbrev pub told : ℕ → ℕ
-told n = min n (2 ^ 64 - 1)
-
 pub record Numbered : Type 0 where
-  -- the number of a line in its script, from 1 on, as it is told
+  -- the number of a line in its script, from 1 on, or 2^64 - 1 where it is more
   pub number : ℕ
   -- what the line asks
   pub asked : Asked
@@ -21,7 +18,7 @@ numbered number asked = record { number = number; asked = asked }
 -- what each of these lines asks, where the first one has this number
 abbrev pub numbered_from : ℕ → List Line → List Numbered
 numbered_from n [] = []
-numbered_from n (line ∷ lines) = numbered (told n) (asked_by line) ∷ numbered_from (n + 1) lines
+numbered_from n (line ∷ lines) = numbered (capped n) (asked_by line) ∷ numbered_from (n + 1) lines
 
 -- those of them that have a reply, in order
 abbrev pub replied : List Numbered → List Numbered

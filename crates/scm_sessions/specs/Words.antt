@@ -1,7 +1,7 @@
 -- The words of a line: what stands between spaces and tabs. This project's profile.
-use Rattle.std.specs.Prelude.{ℕ, List, length, Bool, ◌||◌, ◌==◌, nat_lt, filter, if◌then◌else◌, Option, None, Some, option_and_then, slice_get}
+use Rattle.std.specs.Prelude.{ℕ, List, length, Bool, ◌||◌, ◌==◌, nat_lt, filter, Option, option_and_then, slice_get}
 use Rattle.std.specs.List.{slice_split}
-use Rattle.scm_cells.specs.Names.{is_name}
+use Rattle.scm_lowering.specs.Accesses.{name_of_word}
 
 -- a space or a tab
 abbrev pub is_blank : ℕ → Bool
@@ -14,10 +14,6 @@ split_at_blanks bytes = slice_split is_blank bytes
 -- the words of a line, in order
 abbrev pub words_of : List ℕ → List (List ℕ)
 words_of bytes = filter (λ field. nat_lt 0 (length field)) (split_at_blanks bytes)
-
--- a word as a name, where it is one
-abbrev pub name_of_word : List ℕ → Option (List ℕ)
-name_of_word word = if is_name word then Some word else None
 
 -- the first word of a line where it is a name
 abbrev pub name_of_line : List ℕ → Option (List ℕ)
