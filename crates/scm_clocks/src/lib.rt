@@ -18,7 +18,7 @@ pub use flags::Flags;
 pub use given::Given;
 pub use grid::Grid;
 pub use numbering::Numbering;
-pub use part::{Part, counts_of};
+pub use part::Part;
 pub use values::Values;
 pub use writers::Writers;
 pub use writes::Writes;

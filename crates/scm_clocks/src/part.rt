@@ -1,6 +1,5 @@
 //! A part of a trace.
-use scm_sequences::{Lengths, Sequences};
-use std::alloc::Global;
+use scm_sequences::Sequences;
 
 /// The operations of each process from so many that it has made up to an end, where the cells hold this (`None` is an open
 /// cell). Of each process so many of them are checked: what later ones found counts for nothing.
@@ -24,13 +23,4 @@ impl Part<'_> {
         }
         ops.saturating_mul(self.ends.len() as u64)
     }
-}
-
-/// The counts of all processes.
-pub fn counts_of(alloc: Global, lengths: &Lengths) -> Option<Vec<u32>> {
-    let mut counts = Vec::new(alloc);
-    for p in 0..lengths.procs() {
-        counts.push(lengths.get(p)).ok()?;
-    }
-    Some(counts)
 }

@@ -3,7 +3,7 @@ use crate::cases::Ending;
 use crate::conflict::Conflict;
 use crate::gathering::gather;
 use crate::search::{Search, Sought};
-use scm_clocks::{Given, Part, counts_of};
+use scm_clocks::{Given, Part};
 use scm_orders::Derivation;
 use scm_sequences::{Lengths, Sequences};
 use std::alloc::Global;
@@ -27,17 +27,14 @@ pub fn find_cycle(
     lengths: &Lengths,
 ) -> Option<Derivation> {
     let fuel = fuel_for(lengths);
-    let (none, whole) = (
-        vec![in alloc; 0; lengths.procs()].ok()?,
-        counts_of(alloc, lengths)?,
-    );
+    let none = vec![in alloc; 0; lengths.procs()].ok()?;
     let part = Part {
         contents: initials,
         sequences,
         made: none.as_slice(),
-        ends: whole.as_slice(),
+        ends: lengths.counts(),
         checked: u32::MAX,
-        whole: whole.as_slice(),
+        whole: lengths.counts(),
     };
     let given = Given::new(alloc, &part)?;
     let mut search = Search::new(alloc, Sought::Refutation, given, fuel)?;

@@ -4,7 +4,7 @@ use crate::facts::Facts;
 use crate::fuel::{fuel_of_search, fuel_of_windows};
 use crate::guided_walk::GuidedWalk;
 use crate::order::Order;
-use scm_clocks::{Clocks, Given, Part, counts_of};
+use scm_clocks::{Clocks, Given, Part};
 use scm_cycles::{Guess, SKEWS, find_sources};
 use scm_sequences::{Lengths, Sequences};
 use std::alloc::Global;
@@ -64,13 +64,12 @@ pub fn propose(
     limit: usize,
     room: usize,
 ) -> Option<Vec<u8>> {
-    let counts = counts_of(alloc, lengths)?;
     let proposer = Proposer {
         alloc,
         initials,
         sequences,
         lengths,
-        counts: counts.as_slice(),
+        counts: lengths.counts(),
         earlier,
         limit,
     };

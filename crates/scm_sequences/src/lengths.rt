@@ -44,6 +44,14 @@ impl Lengths {
         self.counts[p]
     }
 
+    /// The counts, from process 0 on.
+    pub fn counts(&self) -> &[u32]
+        ensures counts { result.now ≡ self.now }
+        ensures most { length self.now ≤ MOST_PROCESSES }
+    {
+        &self.counts
+    }
+
     /// The number of processes.
     pub fn procs(&self) -> usize
         ensures procs { result ≡ length self.now }

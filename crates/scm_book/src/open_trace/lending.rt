@@ -10,7 +10,7 @@ ghost use Rattle.scm_book.specs.Loans.{IsAlike, IsMore, Lends, TakesBack, TakesS
 
 use super::asking::lengths_at;
 use super::{OpenTrace, Purpose};
-use crate::copying::{copy_of_lengths, copy_of_sequences};
+use crate::copying::copy_of_sequences;
 use crate::known_schedules::KnownSchedules;
 use crate::loan::Loan;
 use crate::proposing::{Proposing, has_few_situations};
@@ -67,7 +67,7 @@ impl OpenTrace {
     {
         let present = self.sequences.lengths();
         match lengths_at(&self.marks, &present, mark) {
-            Ok(lengths) => Some(copy_of_lengths(alloc, lengths)),
+            Ok(lengths) => Some(Lengths::new(alloc, lengths.counts())),
             Err(_) => None,
         }
     }
