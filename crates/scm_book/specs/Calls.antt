@@ -83,14 +83,14 @@ call_data (CloseTrace name) = closes name
 abbrev pub reply_data : Reply → ReplyData
 reply_data Done = done
 reply_data (MarkSet mark) = marked mark
-reply_data (Consistent schedule fixed) = consistent schedule.items fixed.items
+reply_data (Consistent witness) = consistent (arc_value witness).schedule.items (arc_value witness).fixed.items
 reply_data Inconsistent = inconsistent
 reply_data Undecided = undecided
-reply_data (Because situations) = because situations.items
-reply_data (CycleFound derivation) = cycle derivation.lines.items derivation.hints.items
+reply_data (Because situations) = because (arc_value situations).items
+reply_data (CycleFound derivation) = cycle (arc_value derivation).lines.items (arc_value derivation).hints.items
 reply_data Unknown = unknown
-reply_data (Ops operations) = ops operations.items
-reply_data (Traces names) = listed names.items
+reply_data (Ops operations) = ops (arc_value operations).items
+reply_data (Traces names) = listed (arc_value names).items
 reply_data (Refused refusal) = refused refusal
 
 -- what is replied to a call that may be refused

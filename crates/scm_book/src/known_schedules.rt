@@ -122,7 +122,7 @@ impl KnownSchedules {
         ensures { length self.new.schedule.items ≤ max (length self.old.schedule.items) (sum lengths.now) }
     {
         match reply {
-            Reply::Consistent { schedule, .. } => self.keep(schedule, lengths),
+            Reply::Consistent(witness) => self.keep(&witness.schedule, lengths),
             _ => self.fail(lengths),
         }
     }

@@ -26,4 +26,4 @@ pub use entry::Entry;
 pub use event::{Event, run_events};
 pub use loan::Loan;
 pub use plan::Plan;
-pub use reply::{Reply, Shown};
+pub use reply::{Reply, Shown, Witness};

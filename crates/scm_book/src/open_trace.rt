@@ -1,5 +1,6 @@
 //! An open trace.
 ghost use Rattle.std.specs.Prelude.{◌≡◌, ◌∷◌, ◌++◌, [], ◌<◌, ◌≤◌, ◌==◌, length, None, Some, IfOk, IfErr, OnOk, OnErr, IsOkAnd, IsSomeAnd, slice_set, MatchResult};
+ghost use Rattle.std.specs.Arc.{arc_value};
 ghost use Rattle.scm_sequences.specs.declared.limits.TheConstants.{MOST_PROCESSES, MOST_SITUATIONS};
 ghost use Rattle.scm_sequences.specs.Refusals.{Refuses};
 ghost use Rattle.scm_sequences.specs.Sequences.{pushed, cut_lists, lengths_of};
@@ -33,6 +34,7 @@ use scm_sequences::{MOST_PROCESSES, NoMemory, Refusal, Sequences};
 use smallvec::SmallVec;
 use std::alloc::Global;
 use std::marker::Model;
+use std::sync::Arc;
 
 /// A trace that is open, without its name. Contracts see its state in the machine, and the set that is kept for it.
 #[derive(Drop)]
@@ -242,8 +244,8 @@ impl OpenTrace {
     }
 
     /// The operations of a process, each with the name of its cell. Refused `NoSuchProcess`.
-    pub(crate) fn show(&self, alloc: Global, process: u64) -> Result<Vec<Shown>, Refusal>
-        ensures ok { IfOk result (λ shown. (no_process self.now.state process ≡ None) × (shown.items ≡ shown_operations self.now.state process)) }
+    pub(crate) fn show(&self, alloc: Global, process: u64) -> Result<Arc<Vec<Shown>>, Refusal>
+        ensures ok { IfOk result (λ shown. (no_process self.now.state process ≡ None) × ((arc_value shown).items ≡ shown_operations self.now.state process)) }
         ensures err { IfErr result (Refuses (no_process self.now.state process)) }
     {
         let process = process as usize;

@@ -1,5 +1,6 @@
 //! The replies of the book.
 ghost use Rattle.std.specs.Prelude.{◌≡◌, true, IfOk, is_ok};
+ghost use Rattle.std.specs.Arc.{arc_value};
 ghost use Rattle.scm_book.specs.Calls.{reply_data};
 ghost use Rattle.scm_book.specs.Journal.{makes_entry as makes_entry_data};
 ghost use Rattle.scm_book.specs.Changes.{tells_of_change};
@@ -9,6 +10,7 @@ use scm_frontier::Situation;
 use scm_orders::Derivation;
 use scm_sequences::{NoMemory, Op, Refusal};
 use std::alloc::Global;
+use std::sync::Arc;
 
 /// An operation as it is shown: with the name of its cell.
 #[derive(Clone, Copy, Debug, PartialEq, Eq)]
@@ -17,49 +19,51 @@ pub struct Shown {
     pub op: Op,
 }
 
-/// What the book answers to a call.
+/// A legal schedule, and what it rests on.
+#[derive(Debug, PartialEq, Eq, Drop)]
+pub struct Witness {
+    /// The process numbers, oldest first.
+    pub schedule: Vec<u8>,
+    /// What cells must have held at first whose first contents were open, in the order of their declaration.
+    pub fixed: Vec<(Name, u64)>,
+}
+
+/// What the book answers to a call. What is long is shared by all who keep the reply.
 #[derive(Debug, PartialEq, Eq, Drop)]
 pub enum Reply {
     Done,
     /// The number of a mark that was set.
     MarkSet(u64),
-    /// The trace is consistent: the process numbers of a legal schedule, oldest first, and what cells must have held at
-    /// first whose first contents were open, in the order of their declaration.
-    Consistent {
-        schedule: Vec<u8>,
-        fixed: Vec<(Name, u64)>,
-    },
+    /// The trace is consistent, as this shows.
+    Consistent(Arc<Witness>),
     /// No legal schedule exists.
     Inconsistent,
     /// More situations can be reached than the trace's budget.
     Undecided,
     /// No legal schedule exists: all situations that can be reached, in order.
-    Because(Vec<Situation>),
+    Because(Arc<Vec<Situation>>),
     /// No legal schedule exists: what every one would have to keep, line by line, of which the last puts an operation
     /// before itself.
-    Cycle(Derivation),
+    Cycle(Arc<Derivation>),
     /// No short refutation was found, which says nothing.
     Unknown,
     /// The operations of a process, in order.
-    Ops(Vec<Shown>),
+    Ops(Arc<Vec<Shown>>),
     /// The names of the open traces, in the order of their opening.
-    Traces(Vec<Name>),
+    Traces(Arc<Vec<Name>>),
     Refused(Refusal),
 }
 
-/// Equal situations, in the same order.
-fn copy_all(alloc: Global, situations: &[Situation]) -> Result<Vec<Situation>, NoMemory>
-    ensures { IfOk result (λ copies. copies.items ≡ situations.now) }
+/// The list, without room to spare, to be shared by all who keep it.
+pub(crate) fn shared<T: Drop>(alloc: Global, mut list: Vec<T>) -> Result<Arc<Vec<T>>, NoMemory>
+    ensures { IfOk result (λ owner. (arc_value owner).items ≡ list.items) }
 {
-    let mut copies = Vec::with_capacity(alloc, situations.len())?;
-    for situation in situations {
-        copies.push(situation.copy()?)?;
-    }
-    Ok(copies)
+    list.shrink_to_fit();
+    Ok(Arc::new(alloc, list)?)
 }
 
 impl Reply {
-    /// An equal reply. The replies that tell of a change take no memory.
+    /// An equal reply, which takes no memory. A reply that is shared already by 2^63 - 1 isn't copied.
     pub fn copy(&self) -> Result<Reply, NoMemory>
         ensures copy { IfOk result (λ reply. reply_data reply ≡ reply_data self.now) }
         ensures light { tells_of_change (reply_data self.now) ≡ true → is_ok result ≡ true }
@@ -67,19 +71,11 @@ impl Reply {
         Ok(match self {
             Reply::Done => Reply::Done,
             Reply::MarkSet(mark) => Reply::MarkSet(*mark),
-            Reply::Consistent { schedule, fixed } => Reply::Consistent {
-                schedule: schedule.clone()?,
-                fixed: fixed.clone()?,
-            },
+            Reply::Consistent(witness) => Reply::Consistent(witness.clone()?),
             Reply::Inconsistent => Reply::Inconsistent,
             Reply::Undecided => Reply::Undecided,
-            Reply::Because(situations) => {
-                Reply::Because(copy_all(*situations.allocator(), situations)?)
-            }
-            Reply::Cycle(derivation) => Reply::Cycle(Derivation {
-                lines: derivation.lines.clone()?,
-                hints: derivation.hints.clone()?,
-            }),
+            Reply::Because(situations) => Reply::Because(situations.clone()?),
+            Reply::Cycle(derivation) => Reply::Cycle(derivation.clone()?),
             Reply::Unknown => Reply::Unknown,
             Reply::Ops(operations) => Reply::Ops(operations.clone()?),
             Reply::Traces(names) => Reply::Traces(names.clone()?),

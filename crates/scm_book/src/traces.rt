@@ -1,5 +1,6 @@
 //! The open traces: the machine that a book stands for.
 ghost use Rattle.std.specs.Prelude.{◌≡◌, ◌↔◌, [], is_ok, IfOk, IfErr, IsTrue};
+ghost use Rattle.std.specs.Arc.{arc_value};
 ghost use Rattle.std.specs.Map.{remove_entry};
 ghost use Rattle.std.specs.Option.{option_map};
 ghost use Rattle.indexmap.specs.IndexMap.{insert_entry};
@@ -15,6 +16,7 @@ mod lending;
 mod working;
 
 use crate::open_trace::OpenTrace;
+use crate::reply::shared;
 use crate::{Call, Decl, Reply};
 use indexmap::IndexMap;
 use scm_cells::Name;
@@ -23,6 +25,7 @@ use scm_lowering::Access;
 use scm_sequences::{MOST_TRACES, NoMemory, Refusal};
 use std::alloc::{AllocFailed, Global};
 use std::marker::Model;
+use std::sync::Arc;
 
 /// The open traces, by name, in the order of their opening, each with the set that is kept for it.
 ///
@@ -239,10 +242,11 @@ impl Traces {
     }
 
     /// The names of the traces, in the order of their opening.
-    fn names(&self) -> Result<Vec<Name>, NoMemory>
-        ensures { IfOk result (λ names. names.items ≡ trace_names (machine_in self.now)) }
+    fn names(&self) -> Result<Arc<Vec<Name>>, NoMemory>
+        ensures { IfOk result (λ names. (arc_value names).items ≡ trace_names (machine_in self.now)) }
     {
-        Ok(self.traces.keys().copied().collect(self.alloc)?)
+        let names = self.traces.keys().copied().collect(self.alloc)?;
+        shared(self.alloc, names)
     }
 
     fn list(&mut self, session: u16) -> Reply

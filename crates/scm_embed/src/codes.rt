@@ -27,7 +27,7 @@ pub(crate) fn code_of(reply: &Reply) -> u32
     match reply {
         Reply::Done => 0,
         Reply::MarkSet(_) => 16,
-        Reply::Consistent { .. } => 17,
+        Reply::Consistent(_) => 17,
         Reply::Inconsistent => 18,
         Reply::Undecided => 19,
         Reply::Because(_) => 20,

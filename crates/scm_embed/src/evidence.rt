@@ -25,8 +25,8 @@ pub(crate) fn count_rows(reply: &Reply, part: u32) -> Option<usize>
     ensures { result ≡ option_map length (rows_of (reply_data reply.now) part) }
 {
     match (reply, part) {
-        (Reply::Consistent { schedule, .. }, 0) => Some(schedule.len()),
-        (Reply::Consistent { fixed, .. }, 1) => Some(fixed.len()),
+        (Reply::Consistent(witness), 0) => Some(witness.schedule.len()),
+        (Reply::Consistent(witness), 1) => Some(witness.fixed.len()),
         (Reply::Because(situations), 2 | 3) => Some(situations.len()),
         (Reply::MarkSet(_), 4) => Some(1),
         (Reply::Cycle(derivation), 5 | 6) => Some(derivation.lines.len()),
@@ -105,8 +105,8 @@ pub(crate) fn read_piece(
     ensures { result ≡ option_map (λ rows. piece_at rows row field) (rows_of (reply_data reply.now) part) }
 {
     Some(match (reply, part) {
-        (Reply::Consistent { schedule, .. }, 0) => process_piece(schedule, row, field),
-        (Reply::Consistent { fixed, .. }, 1) => fixed_piece(fixed, row, field),
+        (Reply::Consistent(witness), 0) => process_piece(&witness.schedule, row, field),
+        (Reply::Consistent(witness), 1) => fixed_piece(&witness.fixed, row, field),
         (Reply::Because(situations), 2) => count_piece(situations, row, field),
         (Reply::Because(situations), 3) => content_piece(situations, row, field),
         (Reply::MarkSet(mark), 4) => mark_piece(*mark, row, field),

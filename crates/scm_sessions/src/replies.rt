@@ -173,7 +173,7 @@ impl<W: Write> Port<W> {
         match reply {
             Reply::Done => self.put(b"ok"),
             Reply::MarkSet(mark) => self.put_mark(*mark),
-            Reply::Consistent { schedule, fixed } => self.put_consistent(schedule, fixed),
+            Reply::Consistent(witness) => self.put_consistent(&witness.schedule, &witness.fixed),
             Reply::Inconsistent => self.put(b"inconsistent"),
             Reply::Undecided => self.put(b"undecided"),
             Reply::Because(situations) => self.put_refutation(situations),

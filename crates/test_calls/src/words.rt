@@ -1,6 +1,6 @@
 //! The words of the tests: sessions, names, and calls and replies as the lines of a script say them.
 
-use scm_book::{Book, Call, Decl, Reply};
+use scm_book::{Book, Call, Decl, Reply, Witness};
 use scm_cells::{Initial, Name, Num, Width, read_count};
 use scm_lowering::read_access;
 use std::alloc::Global;
@@ -117,7 +117,8 @@ pub(crate) fn says(reply: &Reply, line: &str) -> bool {
     match reply {
         Reply::Done => line == "ok",
         Reply::MarkSet(mark) => verb == "ok" && is_count(*mark as usize),
-        Reply::Consistent { schedule, fixed } => {
+        Reply::Consistent(witness) => {
+            let Witness { schedule, fixed } = &**witness;
             verb == "consistent" && are_places(rest, schedule) && fixed.is_empty()
         }
         Reply::Inconsistent => line == "inconsistent",

@@ -8,7 +8,7 @@ use std::alloc::Global;
 /// runs ran out of its budget the other one need not have.
 fn is_same(first: &Reply, again: &Reply) -> bool {
     match (first, again) {
-        (Reply::Consistent { .. }, Reply::Consistent { .. }) => true,
+        (Reply::Consistent(_), Reply::Consistent(_)) => true,
         (Reply::Undecided, again) => is_verdict(again),
         (first, Reply::Undecided) => is_verdict(first),
         _ => first == again,
@@ -18,7 +18,7 @@ fn is_same(first: &Reply, again: &Reply) -> bool {
 fn is_verdict(reply: &Reply) -> bool {
     matches!(
         reply,
-        Reply::Consistent { .. } | Reply::Inconsistent | Reply::Because(_) | Reply::Undecided
+        Reply::Consistent(_) | Reply::Inconsistent | Reply::Because(_) | Reply::Undecided
     )
 }
 

@@ -6,6 +6,7 @@ use scm_orders::{Derivation, Fact, Line, Place, Rule};
 use scm_sequences::NoMemory;
 use scm_sessions::{Port, RunFault, write_reply};
 use std::alloc::Global;
+use std::sync::Arc;
 use std::test::Fail;
 
 /// What is written for a reply under no name.
@@ -31,7 +32,8 @@ fn cycle_of_one(alloc: Global, fact: Fact, rule: Rule, hints: &[u32]) -> Result<
         count,
         block: None,
     })?;
-    Ok(Reply::Cycle(Derivation { lines, hints: all }))
+    let derivation = Derivation { lines, hints: all };
+    Ok(Reply::Cycle(Arc::new(alloc, derivation)?))
 }
 
 const FROM: Place = Place { process: 0, at: 3 };

@@ -1,5 +1,6 @@
 -- `==` of calls and of replies says whether they are the same as data.
 use Rattle.std.proofs.Common.{rules, ◌≡◌, ℕ, List, Bool, ◌&&◌, ◌==◌}
+use Rattle.std.specs.Arc.{arc_value}
 use Rattle.std.specs.Bool.{Decides}
 use Rattle.std.specs.Cmp.{unsigned_Decides}
 use Rattle.std.specs.Cmp.Lexicographic.{pointwise_decides}
@@ -19,7 +20,7 @@ use Rattle.scm_book.specs.contracts.call.DeclPartialEq.TheImpl as decls
 use Rattle.scm_book.specs.contracts.call.CallPartialEq.TheImpl as calls
 use Rattle.scm_book.specs.contracts.reply.ShownPartialEq.TheImpl as shown
 use Rattle.scm_book.specs.contracts.reply.ReplyPartialEq.TheImpl as replies
-use Rattle.scm_book.specs.Calls.{reports, call_data, consistent, listed, reply_data}
+use Rattle.scm_book.specs.Calls.{reports, call_data, listed, reply_data}
 
 decl_eq-Decides : (a b : Decl) → Decides (decls.ghosts.eq a b) (a ≡ b)
 decl_eq-Decides a b = search (rules, name_eq-Decides)
@@ -61,35 +62,35 @@ call_eq-Decides (ShowOps name process) b = search (rules, name_eq-Decides)
 call_eq-Decides ListTraces b = search rules
 call_eq-Decides (CloseTrace name) b = search (rules, name_eq-Decides)
 
-because_Decides : (xs ys : _) → Decides (replies.ghosts.eq (Because xs) (Because ys)) (xs.items ≡ ys.items)
-because_Decides xs ys = pointwise_decides situated_eq-Decides xs.items ys.items
+because_Decides : (xs ys : _) → Decides (replies.ghosts.eq (Because xs) (Because ys)) ((arc_value xs).items ≡ (arc_value ys).items)
+because_Decides xs ys = pointwise_decides situated_eq-Decides (arc_value xs).items (arc_value ys).items
 
-ops_Decides : (xs ys : _) → Decides (replies.ghosts.eq (Ops xs) (Ops ys)) (xs.items ≡ ys.items)
-ops_Decides xs ys = pointwise_decides shown_eq-Decides xs.items ys.items
+ops_Decides : (xs ys : _) → Decides (replies.ghosts.eq (Ops xs) (Ops ys)) ((arc_value xs).items ≡ (arc_value ys).items)
+ops_Decides xs ys = pointwise_decides shown_eq-Decides (arc_value xs).items (arc_value ys).items
 
-traces_Decides : (xs ys : _) → Decides (replies.ghosts.eq (Traces xs) (Traces ys)) (listed xs.items ≡ listed ys.items)
-traces_Decides xs ys = search (rules, pointwise_decides name_eq-Decides xs.items ys.items)
+traces_Decides : (xs ys : _) → Decides (replies.ghosts.eq (Traces xs) (Traces ys)) (listed (arc_value xs).items ≡ listed (arc_value ys).items)
+traces_Decides xs ys = search (rules, pointwise_decides name_eq-Decides (arc_value xs).items (arc_value ys).items)
 
 fixed_eq-Decides : (a b : List ℕ × ℕ) → Decides (name_eq a.0 b.0 && (a.1 == b.1)) (a ≡ b)
 fixed_eq-Decides a b = search (rules, name_eq-Decides)
 
-consistent_Decides : (xs ys fs gs : _) → Decides (replies.ghosts.eq (Consistent xs fs) (Consistent ys gs)) (consistent xs.items fs.items ≡ consistent ys.items gs.items)
-consistent_Decides xs ys fs gs = search (rules, pointwise_decides unsigned_Decides xs.items ys.items, pointwise_decides fixed_eq-Decides fs.items gs.items)
+consistent_Decides : (a b : _) → Decides (replies.ghosts.eq (Consistent a) (Consistent b)) (reply_data (Consistent a) ≡ reply_data (Consistent b))
+consistent_Decides a b = search (rules, pointwise_decides unsigned_Decides (arc_value a).schedule.items (arc_value b).schedule.items, pointwise_decides fixed_eq-Decides (arc_value a).fixed.items (arc_value b).fixed.items)
 
 pub reply_eq-Decides : (a b : Reply) → Decides (replies.ghosts.eq a b) (reply_data a ≡ reply_data b)
 reply_eq-Decides Done b = search rules
 reply_eq-Decides (MarkSet mark) b = search rules
-reply_eq-Decides (Consistent schedule fixed) (Consistent s f) = consistent_Decides schedule s fixed f
-reply_eq-Decides (Consistent schedule fixed) Done = search rules
-reply_eq-Decides (Consistent schedule fixed) (MarkSet m) = search rules
-reply_eq-Decides (Consistent schedule fixed) Inconsistent = search rules
-reply_eq-Decides (Consistent schedule fixed) Undecided = search rules
-reply_eq-Decides (Consistent schedule fixed) (Because s) = search rules
-reply_eq-Decides (Consistent schedule fixed) (CycleFound d) = search rules
-reply_eq-Decides (Consistent schedule fixed) Unknown = search rules
-reply_eq-Decides (Consistent schedule fixed) (Ops o) = search rules
-reply_eq-Decides (Consistent schedule fixed) (Traces n) = search rules
-reply_eq-Decides (Consistent schedule fixed) (Refused r) = search rules
+reply_eq-Decides (Consistent witness) (Consistent w) = consistent_Decides witness w
+reply_eq-Decides (Consistent witness) Done = search rules
+reply_eq-Decides (Consistent witness) (MarkSet m) = search rules
+reply_eq-Decides (Consistent witness) Inconsistent = search rules
+reply_eq-Decides (Consistent witness) Undecided = search rules
+reply_eq-Decides (Consistent witness) (Because s) = search rules
+reply_eq-Decides (Consistent witness) (CycleFound d) = search rules
+reply_eq-Decides (Consistent witness) Unknown = search rules
+reply_eq-Decides (Consistent witness) (Ops o) = search rules
+reply_eq-Decides (Consistent witness) (Traces n) = search rules
+reply_eq-Decides (Consistent witness) (Refused r) = search rules
 reply_eq-Decides Inconsistent b = search rules
 reply_eq-Decides Undecided b = search rules
 reply_eq-Decides (Because situations) b = search (rules, because_Decides)
@@ -99,7 +100,7 @@ reply_eq-Decides (Ops operations) b = search (rules, ops_Decides)
 reply_eq-Decides (Traces names) (Traces n) = traces_Decides names n
 reply_eq-Decides (Traces names) Done = search rules
 reply_eq-Decides (Traces names) (MarkSet m) = search rules
-reply_eq-Decides (Traces names) (Consistent s f) = search rules
+reply_eq-Decides (Traces names) (Consistent w) = search rules
 reply_eq-Decides (Traces names) Inconsistent = search rules
 reply_eq-Decides (Traces names) Undecided = search rules
 reply_eq-Decides (Traces names) (Because s) = search rules
