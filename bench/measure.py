@@ -1,4 +1,4 @@
-"""Feeds generated scripts to the monitor, without workers, and prints how long it took. Called by bench/run."""
+"""Feeds generated scripts to the monitor, without workers but where it says so, and prints how long it took. Called by bench/run."""
 
 import os
 import platform
@@ -48,6 +48,21 @@ def best(program, script, seconds=None):
         if taken > 5:
             break
     return replies, least
+
+
+def usage(program, script):
+    """The least user seconds of some runs of a program with these words, and the most memory of one in MB."""
+    runs = []
+    with tempfile.TemporaryFile() as source:
+        source.write(script)
+        for _ in range(REPEATS):
+            source.seek(0)
+            running = subprocess.Popen(program, stdin=source, stdout=subprocess.DEVNULL)
+            _, status, used = os.wait4(running.pid, 0)
+            if status != 0:
+                sys.exit(f"bench: the program ended with status {status}")
+            runs.append((used.ru_utime, used.ru_maxrss / 1024))
+    return min(seconds for seconds, _ in runs), max(memory for _, memory in runs)
 
 
 def script_of(lines):
@@ -185,6 +200,29 @@ def measure_growth(program):
         print(f"{rounds:>10,} {2 * rounds:>11,} {taken:>9.3f} {rounds / taken:>12,.0f}")
 
 
+def lists():
+    """A million lists, in turn by 256 sessions, of four traces."""
+    for trace in range(4):
+        yield f"s0 open trace_{trace} 1 100 x:w=0"
+    for line in range(REPORTS):
+        yield f"s{line % 256} list"
+
+
+def measure_default(program):
+    """What two workers cost who have nothing to do."""
+    print("\nthe default beside --workers 0, user seconds and MB")
+    for title, lines in (("reports", reports()), ("lists of 256 sessions", lists())):
+        script = script_of(lines)
+        seconds, memory = usage([program], script)
+        alone, less = usage([program, "--workers", "0"], script)
+        times = f"{seconds:>7.2f} {alone:>7.2f} {seconds / alone:>6.2f} {memory:>7.0f} {less:>7.0f} {memory / less:>6.2f}"
+        print(f"a million {title:<24}{times}")
+    searched = best([program], script_of(forbidden(WRITERS[-1])), SECONDS)
+    again = best([program], script_of(held(WRITERS[-1], ["a ask t"])), SECONDS)
+    if searched and again:
+        print(f"the same question again, 1,000,000 situations held: {(again[1] - searched[1]) / ASKED * 1_000:.3f} ms")
+
+
 def measure_checker(checker):
     """The checker of refutations on a list of 100,000 situations, which that program makes itself."""
     if not os.access(checker, os.X_OK):
@@ -204,6 +242,7 @@ def main():
     measure_questions(program, "questions that are consistent: the writers' situations, and those of the reader", allowed, b"a consistent")
     measure_held(program)
     measure_growth(program)
+    measure_default(program[0])
     measure_checker(os.path.abspath(sys.argv[2]))
 
 
