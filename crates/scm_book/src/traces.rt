@@ -52,7 +52,9 @@ impl Model for Traces {
 fn is_put(put: Result<Option<OpenTrace>, AllocFailed<(Name, OpenTrace)>>) -> bool
     ensures { result ≡ is_ok put }
 {
-    put.is_ok()
+    let is_put = put.is_ok();
+    drop(put);
+    is_put
 }
 
 impl Traces {
