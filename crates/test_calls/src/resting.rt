@@ -3,7 +3,7 @@ ghost use Rattle.std.specs.Prelude.{◌≡◌};
 
 use crate::lending::assert_held;
 use crate::shared::entered;
-use crate::shared_workers::{Barrier, accounted, play_shared};
+use crate::shared_workers::{accounted, play_shared};
 use scm_book::Book;
 use scm_expand::{FreeGate, TaskSource, run_workers};
 use scm_results::Tally;
@@ -13,12 +13,12 @@ use std::alloc::Global;
 use std::marker::Brand;
 use std::process::Abort;
 use std::sync::Wait;
-use std::sync::atomic::{AtomicU64, Ordering};
+use std::sync::atomic::AtomicU64;
 use std::test::Fail;
 use std::thread;
 use std::thread::Threads;
 use std::time::Duration;
-use test_fixtures::is_set;
+use test_fixtures::Barrier;
 
 const WORKERS: usize = 2;
 
@@ -57,7 +57,7 @@ fn call_meanwhile<B: BookNaming, R: Wait + Abort>(
     pass: &mut Pass<B>,
     barrier: &Barrier,
 ) {
-    assert!(rt; is_set(&barrier.came));
+    assert!(rt; barrier.holds(1));
     play_shared(rt, alloc, shared, pass, STORES);
     play_shared(
         rt,
@@ -66,8 +66,8 @@ fn call_meanwhile<B: BookNaming, R: Wait + Abort>(
         pass,
         "ask u => consistent; ask t => inconsistent",
     );
-    assert!(rt; !barrier.left.load(Ordering::SeqCst));
-    barrier.open.store(true, Ordering::SeqCst);
+    assert!(rt; barrier.left() == 0);
+    barrier.open();
 }
 
 fn hold<B: BookNaming + Send + Sync, R: Threads + Wait + Abort + Sync>(

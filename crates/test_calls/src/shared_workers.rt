@@ -5,18 +5,17 @@ use crate::expand::expanded;
 use crate::shared::entered;
 use crate::words::{call_of, says};
 use scm_book::Book;
-use scm_expand::{FreeGate, Gate, Outcome, TaskSource, run_workers};
+use scm_expand::{FreeGate, Outcome, TaskSource, run_workers};
 use scm_results::Tally;
 use scm_shared::{Audit, BookNaming, BookToken, Pass, SharedBook};
 use std::alloc::Global;
 use std::marker::Brand;
 use std::process::Abort;
 use std::sync::Wait;
-use std::sync::atomic::{AtomicBool, Ordering};
 use std::test::Fail;
 use std::thread;
 use std::thread::Threads;
-use test_fixtures::{MOST_TURNS, is_set};
+use test_fixtures::{Barrier, MOST_TURNS};
 
 /// Opens t with the cells x and y, and claims its two processes.
 const OPEN: &str = "open t 2 100 x y; claim t 0; claim t 1";
@@ -161,32 +160,6 @@ fn loads_are_worked_off(rt: HostRuntime) -> Result<(), Fail> {
     Ok(())
 }
 
-/// Holds workers until it is opened, and tells that one came, and that one left.
-#[derive(Drop)]
-pub(crate) struct Barrier {
-    pub(crate) came: AtomicBool,
-    pub(crate) open: AtomicBool,
-    pub(crate) left: AtomicBool,
-}
-
-impl Barrier {
-    pub(crate) fn new() -> Barrier {
-        Barrier {
-            came: AtomicBool::new(false),
-            open: AtomicBool::new(false),
-            left: AtomicBool::new(false),
-        }
-    }
-}
-
-impl Gate for Barrier {
-    fn before_expand(&self, _worker: usize) {
-        self.came.store(true, Ordering::SeqCst);
-        let _ = is_set(&self.open);
-        self.left.store(true, Ordering::SeqCst);
-    }
-}
-
 /// A report and a question are answered while a worker is held.
 fn call_while_held<B: BookNaming, R: Wait + Abort>(
     rt: &R,
@@ -195,7 +168,7 @@ fn call_while_held<B: BookNaming, R: Wait + Abort>(
     pass: &mut Pass<B>,
     barrier: &Barrier,
 ) {
-    assert!(rt; is_set(&barrier.came));
+    assert!(rt; barrier.holds(1));
     play_shared(
         rt,
         alloc,
@@ -222,7 +195,7 @@ fn call_meanwhile<B: BookNaming + Send + Sync, R: Threads + Wait + Abort + Sync>
         || {
             call_while_held(rt, alloc, &shared, &mut pass, &barrier);
             shared.stop_workers();
-            barrier.open.store(true, Ordering::SeqCst);
+            barrier.open();
         },
         || run_workers::<B, SharedBook<B>, Barrier, R>(rt, alloc, &shared, &barrier, 2),
     );

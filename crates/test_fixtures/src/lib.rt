@@ -1,6 +1,9 @@
 //! What tests of threads share: how they wait for what other threads do.
 #![tactic(auto)]
 
+mod barrier;
+
+pub use barrier::Barrier;
 use std::sync::atomic::{AtomicBool, AtomicU64, Ordering};
 use std::thread;
 

@@ -1,7 +1,6 @@
 //! The end of a script while workers expand, whose outcomes come after it.
 
 use crate::beside::is_agreed;
-use scm_expand::Gate;
 use scm_sessions::{Ended, Findings, Port, RunFault, run_with_workers};
 use scm_shared::BookToken;
 use std::alloc::Global;
@@ -9,11 +8,10 @@ use std::io::Read;
 use std::marker::Brand;
 use std::process::Abort;
 use std::sync::Wait;
-use std::sync::atomic::{AtomicBool, AtomicU64, Ordering};
 use std::test::Fail;
 use std::thread::Threads;
 use std::{io, thread};
-use test_fixtures::{is_set, rises_to};
+use test_fixtures::Barrier;
 
 /// Store buffering, and a report behind the question, which leaves tasks for workers.
 const SCRIPT: &str = "a open t 2 100 x:w=0 y:w=0\n\
@@ -29,35 +27,6 @@ const SCRIPT: &str = "a open t 2 100 x:w=0 y:w=0\n\
 /// The replies to `SCRIPT`.
 const REPLIES: &str = "a ok\na ok\na ok\na ok\na ok\na ok\na ok\na inconsistent\na ok\n";
 
-/// Holds workers, each with a task in hand, until the script has ended.
-#[derive(Drop)]
-struct Barrier {
-    came: AtomicU64,
-    has_ended: AtomicBool,
-}
-
-impl Barrier {
-    fn new() -> Barrier {
-        Barrier {
-            came: AtomicU64::new(0),
-            has_ended: AtomicBool::new(false),
-        }
-    }
-
-    /// Lets workers go once so many have come.
-    fn open_after(&self, least: u64) {
-        let _ = rises_to(&self.came, least);
-        self.has_ended.store(true, Ordering::SeqCst);
-    }
-}
-
-impl Gate for Barrier {
-    fn before_expand(&self, _worker: usize) {
-        self.came.fetch_add(1, Ordering::SeqCst);
-        let _ = is_set(&self.has_ended);
-    }
-}
-
 /// Gives a script, and its end once so many workers are held.
 #[derive(Drop)]
 struct HeldReader<'a> {
@@ -70,7 +39,8 @@ impl Read for HeldReader<'_> {
     fn read(&mut self, buf: &mut [u8]) -> io::Result<usize> {
         let given = self.script.read(buf)?;
         if given == 0 {
-            self.barrier.open_after(self.least);
+            let _ = self.barrier.holds(self.least);
+            self.barrier.open();
         }
         Ok(given)
     }
@@ -105,7 +75,7 @@ fn run_held<T: Threads + Wait + Sync>(
 
 /// Each task that a worker had in hand was delivered, and all tallies are there.
 fn assert_ended(rt: &impl Abort, ended: &Ended, barrier: &Barrier, workers: usize) {
-    let came = barrier.came.load(Ordering::SeqCst);
+    let came = barrier.came();
     let delivered = ended.audit.book.results().delivered();
     assert!(rt;
         came >= workers.min(1) as u64 && delivered == came,
