@@ -1,8 +1,12 @@
 //! Questions that are lent by a book, and what is taken back after whatever happened meanwhile.
 
+ghost use Rattle.std.specs.Option.{option_map};
+ghost use Rattle.scm_book.specs.Calls.{call_data, reply_data};
+ghost use Rattle.scm_book.specs.Plans.{IsKnown};
+
 use crate::words::{ANNA, call_of, name, play, played, says};
 use crate::work::awaits;
-use scm_book::{Book, Event, Loan, Plan, Reply, run_events};
+use scm_book::{Book, Call, Event, Loan, Plan, Reply, run_events};
 use scm_frontier::Steps;
 use std::alloc::Global;
 use std::process::Abort;
@@ -200,12 +204,23 @@ fn nothing_is_lent_where_the_answer_is_there(rt: HostRuntime) {
     drop(book);
 }
 
+/// The reply that the plan of a call carries.
+fn carried(book: &mut Book, call: &Call) -> Option<Reply>
+    ensures { IsKnown book.new.machine (call_data call.now) (option_map reply_data result) }
+{
+    match book.plan(call) {
+        Plan::Ready(known) => known,
+        other => {
+            drop(other);
+            None
+        }
+    }
+}
+
 /// A known schedule of t is carried by the plan of a question, and answers it with no step.
 fn assert_carried(rt: &impl Abort, alloc: Global, book: &mut Book) {
     let ask = call_of(rt, alloc, "ask t");
-    let Plan::Ready(known) = book.plan(&ask) else {
-        panic!(rt; "a known schedule");
-    };
+    let known = carried(book, &ask);
     let is_known = known.is_some();
     let (reply, kept) = book.call_kept(ANNA, ask, known);
     let is_consistent = says(&reply, "consistent");

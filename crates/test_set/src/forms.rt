@@ -199,6 +199,7 @@ fn grow_and_go_back(rt: &impl Abort, alloc: Global, growth: Growth) {
     trace.ask(rt, [1, 0]);
     trace.report(rt, GO_ON);
     trace.ask(rt, [3, 2]);
+    drop(trace);
 }
 
 #[test]
@@ -219,7 +220,9 @@ fn keep_contents_once(rt: &impl Abort, alloc: Global, growth: Growth) {
     }
     assert!(rt; counted(trace.asked.reach()) == [8, 4]);
     trace.go_back(rt, [0, 0]);
-    assert!(rt; counted(trace.asked.reach()) == [1, 1]);
+    let left = counted(trace.asked.reach());
+    drop(trace);
+    assert!(rt; left == [1, 1]);
 }
 
 #[test]
