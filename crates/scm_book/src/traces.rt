@@ -16,7 +16,6 @@ mod lending;
 mod working;
 
 use crate::open_trace::OpenTrace;
-use crate::reply::shared;
 use crate::{Call, Decl, Reply};
 use indexmap::IndexMap;
 use scm_cells::Name;
@@ -247,8 +246,10 @@ impl Traces {
     fn names(&self) -> Result<Arc<Vec<Name>>, NoMemory>
         ensures { IfOk result (λ names. (arc_value names).items ≡ trace_names (machine_in self.now)) }
     {
-        let names = self.traces.keys().copied().collect(self.alloc)?;
-        shared(self.alloc, names)
+        let names: Vec<Name> = self.traces.keys().copied().collect(self.alloc)?;
+        // A copy is made sooner than what was gathered is shrunk.
+        let exact = Vec::from_slice(self.alloc, &names)?;
+        Ok(Arc::new(self.alloc, exact)?)
     }
 
     fn list(&mut self, session: u16) -> Reply
