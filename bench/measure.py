@@ -12,6 +12,7 @@ REPORTS = 1_000_000
 BUDGET = 1_000_000
 SECONDS = 60  # after this a question is given up
 REPEATS = 3  # the best of so many runs counts
+TURNS = 9  # runs of two programs by turns
 STORES = 9  # of each writer
 WRITERS = range(1, 7)  # 10, 100, .. 1,000,000 situations
 ASKED = 50  # questions where many situations are held
@@ -50,19 +51,22 @@ def best(program, script, seconds=None):
     return replies, least
 
 
-def usage(program, script):
-    """The least user seconds of some runs of a program with these words, and the most memory of one in MB."""
-    runs = []
+def usage(programs, lines):
+    """Of each of these programs with words the least user seconds of some runs, by turns, and its memory in MB. That is at least
+    what this program ever had, so nothing is kept here."""
+    runs = [[] for _ in programs]
     with tempfile.TemporaryFile() as source:
-        source.write(script)
-        for _ in range(REPEATS):
-            source.seek(0)
-            running = subprocess.Popen(program, stdin=source, stdout=subprocess.DEVNULL)
-            _, status, used = os.wait4(running.pid, 0)
-            if status != 0:
-                sys.exit(f"bench: the program ended with status {status}")
-            runs.append((used.ru_utime, used.ru_maxrss / 1024))
-    return min(seconds for seconds, _ in runs), max(memory for _, memory in runs)
+        source.writelines(f"{line}\n".encode() for line in lines)
+        source.flush()
+        for _ in range(TURNS):
+            for program, ran in zip(programs, runs):
+                source.seek(0)
+                running = subprocess.Popen(program, stdin=source, stdout=subprocess.DEVNULL)
+                _, status, used = os.wait4(running.pid, 0)
+                if status != 0:
+                    sys.exit(f"bench: the program ended with status {status}")
+                ran.append((used.ru_utime, used.ru_maxrss / 1024))
+    return [min(ran) for ran in runs]
 
 
 def script_of(lines):
@@ -210,11 +214,9 @@ def lists():
 
 def measure_default(program):
     """What two workers cost who have nothing to do."""
-    print("\nthe default beside --workers 0, user seconds and MB")
-    for title, lines in (("reports", reports()), ("lists of 256 sessions", lists())):
-        script = script_of(lines)
-        seconds, memory = usage([program], script)
-        alone, less = usage([program, "--workers", "0"], script)
+    print("\nthe default beside --workers 0: user seconds, times; MB, times")
+    for title, lines in (("reports", reports), ("lists of 256 sessions", lists)):
+        (seconds, memory), (alone, less) = usage([[program], [program, "--workers", "0"]], lines())
         times = f"{seconds:>7.2f} {alone:>7.2f} {seconds / alone:>6.2f} {memory:>7.0f} {less:>7.0f} {memory / less:>6.2f}"
         print(f"a million {title:<24}{times}")
     searched = best([program], script_of(forbidden(WRITERS[-1])), SECONDS)
@@ -237,12 +239,12 @@ def measure_checker(checker):
 def main():
     program = [os.path.abspath(sys.argv[1]), "--workers", "0"]
     print(f"machine: {machine()}")
+    measure_default(program[0])
     measure_reports(program)
     measure_questions(program, "questions that are inconsistent: all situations are found", forbidden, b"a inconsistent")
     measure_questions(program, "questions that are consistent: the writers' situations, and those of the reader", allowed, b"a consistent")
     measure_held(program)
     measure_growth(program)
-    measure_default(program[0])
     measure_checker(os.path.abspath(sys.argv[2]))
 
 
