@@ -52,8 +52,8 @@ def best(program, script, seconds=None):
 
 
 def usage(programs, lines):
-    """Of each of these programs with words the least user seconds of some runs, by turns, and its memory in MB. That is at least
-    what this program ever had, so nothing is kept here."""
+    """Of each of these programs with words the least user seconds of some runs, by turns, and its memory in MB. The figure of a
+    child is never below what its parent had, so nothing is kept here."""
     runs = [[] for _ in programs]
     with tempfile.TemporaryFile() as source:
         source.writelines(f"{line}\n".encode() for line in lines)
@@ -222,6 +222,8 @@ def measure_default(program):
     searched = best([program], script_of(forbidden(WRITERS[-1])), SECONDS)
     again = best([program], script_of(held(WRITERS[-1], ["a ask t"])), SECONDS)
     if searched and again:
+        if not all(ran[0][-1].startswith(b"a inconsistent") for ran in (searched, again)):
+            sys.exit("bench: wrong verdict")
         print(f"the same question again, 1,000,000 situations held: {(again[1] - searched[1]) / ASKED * 1_000:.3f} ms")
 
 

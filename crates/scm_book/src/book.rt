@@ -215,8 +215,8 @@ impl Book {
         reply
     }
 
-    /// Makes a call of a session, and where that makes an entry gives the call, shared with the entry, and a copy of the
-    /// reply too. Where there is no memory for them the call is refused, and nothing changes but what a question finds out.
+    /// Makes a call of a session, and where that makes an entry gives the call and the reply too, whose long parts the entry
+    /// shares. Where there is no memory for the call it is refused, and nothing changes but what a question finds out.
     /// Where its plan carries a reply, that is the answer.
     pub fn call_kept(
         &mut self,
@@ -237,7 +237,7 @@ impl Book {
     }
 
     /// Makes a call of a session, unless its reply is known, and counts the steps of a question. Where the call `is_kept` and
-    /// makes an entry, it comes back, shared with the entry, beside a copy of the reply.
+    /// makes an entry, it comes back beside the reply, with the long parts of both shared.
     fn make(
         &mut self,
         session: u16,
@@ -275,7 +275,7 @@ impl Book {
     }
 }
 
-/// A copy of the reply for the journal, and another one beside the call where one is given.
+/// The reply once more for the journal, and once beside the call where one is given.
 fn copies(
     reply: &Reply,
     call: Option<Arc<Call>>,

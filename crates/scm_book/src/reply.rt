@@ -28,7 +28,8 @@ pub struct Witness {
     pub fixed: Vec<(Name, u64)>,
 }
 
-/// What the book answers to a call. What is long is shared by all who keep the reply.
+/// What the book answers to a call. What is long is shared by all who keep the reply, and has no room to spare: the journal keeps
+/// it to the run's end.
 #[derive(Debug, PartialEq, Eq, Drop)]
 pub enum Reply {
     Done,
@@ -54,7 +55,7 @@ pub enum Reply {
     Refused(Refusal),
 }
 
-/// The list, without room to spare, to be shared by all who keep it.
+/// The list, to be shared by all who keep it.
 pub(crate) fn shared<T: Drop>(alloc: Global, mut list: Vec<T>) -> Result<Arc<Vec<T>>, NoMemory>
     ensures { IfOk result (λ owner. (arc_value owner).items ≡ list.items) }
 {
@@ -63,7 +64,8 @@ pub(crate) fn shared<T: Drop>(alloc: Global, mut list: Vec<T>) -> Result<Arc<Vec
 }
 
 impl Reply {
-    /// An equal reply, which takes no memory. A reply that is shared already by 2^63 - 1 isn't copied.
+    /// An equal reply, which takes no memory. What is shared already by 2^63 - 1 isn't copied; one that tells of a change always
+    /// is.
     pub fn copy(&self) -> Result<Reply, NoMemory>
         ensures copy { IfOk result (λ reply. reply_data reply ≡ reply_data self.now) }
         ensures light { tells_of_change (reply_data self.now) ≡ true → is_ok result ≡ true }
