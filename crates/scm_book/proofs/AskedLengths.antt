@@ -9,11 +9,11 @@ use Rattle.scm_sequences.specs.laws.SequenceLaws.{length-lengths_of}
 use Rattle.scm_sequences.specs.Traces.{Trace, cut_to}
 use Rattle.scm_sequences.specs.laws.CutLaws.{cut_to-whole}
 use Rattle.scm_reach.specs.Kept.{Kept}
-use Rattle.scm_book.specs.Asking.{CanAsk, IsAsWanted, lengths_at_mark, AsksFor}
+use Rattle.scm_book.specs.Asking.{CanAsk, IsAsWanted, AsksFor}
 use Rattle.scm_book.specs.Calls.{ReplyData}
 use Rattle.scm_book.specs.Machine.{TraceState, trace_in}
 use Rattle.scm_book.specs.Refusals.{refusal_in, question_cause}
-use Rattle.scm_book.specs.Sets.{asked_lengths, most_steps}
+use Rattle.scm_book.specs.Sets.{asked_lengths, lengths_at_mark, most_steps}
 use Rattle.scm_book.specs.Sound.{IsSoundTrace, IsKeptFor}
 use Rattle.scm_book.specs.Steps.{IsAbout, AsksCycle}
 use Rattle.scm_book.specs.Verdicts.{Fits, FitsCycle}
@@ -21,12 +21,8 @@ use Rattle.scm_book.proofs.Keeping.{kept_of}
 use Rattle.scm_book.proofs.Questions.{names_of}
 use Rattle.scm_book.proofs.Sounding.{IsWithin-mark}
 
-asked_as : (state : TraceState) (mark : Option ℕ) → asked_lengths state mark ≡ lengths_at_mark state.marks (lengths_of state.sequences) mark
-asked_as state None = refl
-asked_as state (Some m) = refl
-
 pub asked : (state : TraceState) (mark : Option ℕ) (present : List ℕ) (r : Result (List ℕ) Refusal) → present ≡ lengths_of state.sequences → lengths_at_mark state.marks present mark ≡ r → asked_lengths state mark ≡ r
-asked state mark present r whole is = asked_as state mark ∙ ap (λ l. lengths_at_mark state.marks l mark) (sym whole) ∙ is
+asked state mark present r whole is = ap (λ l. lengths_at_mark state.marks l mark) (sym whole) ∙ is
 
 -- they are found exactly where there is no cause of refusal
 pub cause_none : (state : TraceState) (mark : Option ℕ) (lengths : List ℕ) → asked_lengths state mark ≡ Ok lengths → question_cause state mark ≡ None

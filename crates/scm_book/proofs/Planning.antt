@@ -1,7 +1,6 @@
 -- A known reply is a step of the machine, and leaves all as it is.
 use Rattle.std.proofs.Common.{◌≡◌, ◌⊎◌, ℕ, Bool, true, false, List, Option, None, Some, IfSome, IsSomeAnd, Result, Ok, Err, IfOk, MatchResult, inl, inr, refl, reverse, sym, subst}
 use Rattle.std.specs.Map.{lookup}
-use Rattle.std.specs.Option.{option_map}
 use Rattle.std.specs.Result.{result_ok}
 use Rattle.std.proofs.lemmas.Map.Steps.{set_value_same}
 use Rattle.scm_sequences.specs.declared.op.Op.{Op}
@@ -13,11 +12,13 @@ use Rattle.scm_cells.specs.Names.{name_eq}
 use Rattle.scm_reach.specs.Members.{Member}
 use Rattle.scm_reach.specs.Work.{HasWhole}
 use Rattle.scm_reach.specs.laws.WorkLaws.{KeepsWork-idle}
+use Rattle.scm_book.specs.declared.plan.Outlook.{Outlook}
+use Rattle.scm_book.specs.declared.plan.Outlook.TheVariants.{Known}
 use Rattle.scm_book.specs.declared.reply.Reply.{Reply}
 use Rattle.scm_book.specs.Asking.{IsAsWanted}
 use Rattle.scm_book.specs.Calls.{CallData, opens, claims, releases, reports, sets_mark, goes_back, raises, asks, asks_why, asks_cycle, shows, lists, closes, ReplyData, done, marked, consistent, inconsistent, undecided, because, cycle, unknown, ops, listed, refused, reply_data}
 use Rattle.scm_book.specs.Machine.{Machine, TraceState, trace_named, trace_in}
-use Rattle.scm_book.specs.Plans.{HasSchedule, IsExplained, IsKnown, IsKnownReply}
+use Rattle.scm_book.specs.Plans.{HasSchedule, IsExplained, IsKnown, IsKnownReply, known_reply}
 use Rattle.scm_book.specs.Refusals.{question_cause}
 use Rattle.scm_book.specs.Sets.{KeptTrace, machine_in, sets_in, set_named, asked_lengths, IsKnownBy, Searches, SearchesSet, LeavesSets}
 use Rattle.scm_book.specs.Steps.{Asks, AsksWhy, InTrace, IsStepOrNoMemory}
@@ -118,8 +119,8 @@ module _ (machine : Machine) (name : List ℕ) (mark : Option ℕ) (reply : Repl
         there_done machine machine name (λ s. question_cause s mark) state is reply (λ s. AsksWhy s mark reply × (machine ≡ machine)) known.there (explained_asks_why state mark reply known, refl)
 
 -- the reply that is carried is known
-pub carried : (machine : Machine) (call : CallData) (known : Option Reply) (reply : Reply) → known ≡ Some reply → IsKnown machine call (option_map reply_data known) → IsKnownReply machine call (reply_data reply)
-carried machine call known reply is k = subst (λ o. IsKnown machine call (option_map reply_data o)) is k
+pub carried : (machine : Machine) (call : CallData) (outlook : Outlook) (reply : Reply) → outlook ≡ Known reply → IsKnown machine call (known_reply outlook) → IsKnownReply machine call (reply_data reply)
+carried machine call outlook reply is k = subst (λ o. IsKnown machine call (known_reply o)) is k
 
 -- a call with a known reply is a step that leaves the machine as it is
 pub known_step : (machine : Machine) (session : ℕ) (call : CallData) (reply : ReplyData) → IsKnownReply machine call reply → IsStepOrNoMemory machine session call reply machine

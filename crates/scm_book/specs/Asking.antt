@@ -1,13 +1,11 @@
 -- What the book's own clauses say of a question.
-use Rattle.std.specs.Prelude.{ℕ, ◌≡◌, ◌≢◌, ◌+◌, ◌*◌, ◌<◌, ◌≤◌, ◌^◌, List, length, Option, None, Some, Bool, true, false, Result, Ok}
-use Rattle.scm_sequences.specs.declared.refusal.Refusal.{Refusal}
+use Rattle.std.specs.Prelude.{ℕ, ◌≡◌, ◌≢◌, ◌+◌, ◌*◌, ◌<◌, ◌≤◌, ◌^◌, List, length, Option, Bool, true, false}
 use Rattle.scm_sequences.specs.declared.op.Op.{Op}
 use Rattle.scm_sequences.specs.Ops.{NamesCellsBelow}
 use Rattle.scm_sequences.specs.Lengths.{IsWithin}
 use Rattle.scm_sequences.specs.Sequences.{lengths_of}
 use Rattle.scm_sequences.specs.Traces.{trace_of}
 use Rattle.scm_cells.specs.CellLists.{Declared, initials_of}
-use Rattle.scm_marks.specs.MarkLists.{mark_at}
 use Rattle.scm_frontier.specs.Situated.{Situated}
 use Rattle.scm_reach.specs.Kept.{Kept, IsKept}
 use Rattle.scm_reach.specs.Work.{KeepsWork}
@@ -36,11 +34,6 @@ pub record WasAsked (sequences : List (List Op)) (lengths : List ℕ) (limit : �
 abbrev pub IsAsWanted : Bool → ReplyData → Type 0
 IsAsWanted true reply = reply ≢ inconsistent
 IsAsWanted false reply = (situations : List Situated) → reply ≢ because situations
-
--- the lengths at the mark, or with no mark the present ones
-abbrev pub lengths_at_mark : List (List ℕ) → List ℕ → Option ℕ → Result (List ℕ) Refusal
-lengths_at_mark marks present None = Ok present
-lengths_at_mark marks present (Some m) = mark_at marks m
 
 -- what `ask` or `why` replies, as it is wanted
 abbrev pub AsksFor : Bool → TraceState → Option ℕ → ReplyData → Type 0

@@ -1,6 +1,7 @@
 -- What is found of a call before it is made: the reply of a known schedule, a question that is lent, or neither.
 use Rattle.std.specs.Prelude.{ℕ, ◌≡◌, ⊤, Option, None, Some, IfSome}
-use Rattle.std.specs.Option.{option_map}
+use Rattle.scm_book.specs.declared.plan.Outlook.{Outlook}
+use Rattle.scm_book.specs.declared.plan.Outlook.TheVariants.{Unknown, Near, Known}
 use Rattle.scm_book.specs.declared.plan.Plan.{Plan}
 use Rattle.scm_book.specs.declared.plan.Plan.TheVariants.{Ready, Waits, Long}
 use Rattle.scm_book.specs.Calls.{CallData, asks, asks_why, ReplyData, consistent, reply_data}
@@ -31,14 +32,20 @@ IsKnownReply machine call reply = ⊥
 abbrev pub IsKnown : Machine → CallData → Option ReplyData → Type 0
 IsKnown machine call known = IfSome known (λ reply. IsKnownReply machine call reply)
 
+-- the reply that is known, if one is
+abbrev pub known_reply : Outlook → Option ReplyData
+known_reply Unknown = None
+known_reply Near = None
+known_reply (Known reply) = Some (reply_data reply)
+
 -- the reply that a plan carries, if it does
 abbrev pub reply_in : Plan → Option ReplyData
-reply_in (Ready known) = option_map reply_data known
+reply_in (Ready outlook) = known_reply outlook
 reply_in Waits = None
 reply_in (Long loan) = None
 
 -- the loan that it carries, if it does
 abbrev pub loan_in : Plan → Option Loaned
-loan_in (Ready known) = None
+loan_in (Ready outlook) = None
 loan_in Waits = None
 loan_in (Long loan) = Some loan

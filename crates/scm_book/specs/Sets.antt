@@ -63,10 +63,14 @@ CutsSet machine old name m new =
     IsSomeAnd (trace_named machine name) (λ state. IsOkAnd (mark_at state.marks m) (λ lengths.
     Becomes old name (λ a b. b ≡ record a { members = cut_members lengths a.members }) new))
 
--- the lengths that a question is about: the present ones, or those of a mark
+-- the lengths at the mark, or with no mark the present ones
+abbrev pub lengths_at_mark : List (List ℕ) → List ℕ → Option ℕ → Result (List ℕ) Refusal
+lengths_at_mark marks present None = Ok present
+lengths_at_mark marks present (Some m) = mark_at marks m
+
+-- the lengths that a question is about
 abbrev pub asked_lengths : TraceState → Option ℕ → Result (List ℕ) Refusal
-asked_lengths state None = Ok (lengths_of state.sequences)
-asked_lengths state (Some m) = mark_at state.marks m
+asked_lengths state mark = lengths_at_mark state.marks (lengths_of state.sequences) mark
 
 -- a question with this reply led from the old members to the new, while a counter of steps went from before to after: where
 -- the reply says that there is a schedule, a situation with every operation is held, or nothing was done, since the schedule

@@ -1,7 +1,6 @@
 //! The book of open traces.
 ghost use Rattle.std.specs.Prelude.{◌≡◌, ◌≢◌, ◌↔◌, ◌+◌, ◌-◌, [], false, map, None, Some, true, is_ok, IsTrue, IfOk, IfSome, IsSomeAnd, MatchResult};
 ghost use Rattle.std.specs.Arc.{arc_value};
-ghost use Rattle.std.specs.Option.{option_map};
 ghost use Rattle.scm_book.specs.Calls.{call_data, reply_data, entry_data, refused};
 ghost use Rattle.scm_sequences.specs.declared.refusal.Refusal.TheVariants.{BadLine, TooManySessions};
 ghost use Rattle.scm_book.specs.Machine.{empty_machine};
@@ -9,7 +8,7 @@ ghost use Rattle.scm_book.specs.Sets.{HasRoom, HasRoomFor, HoldsFor, LeavesSets}
 ghost use Rattle.scm_results.specs.Totals.{capped, none_counted};
 ghost use Rattle.scm_book.specs.Workers.{IsTaking, IsDelivery, OffersNothingNew};
 ghost use Rattle.scm_book.specs.Loans.{IsLending, IsLendingForWork, IsTakingBack};
-ghost use Rattle.scm_book.specs.Plans.{IsKnown, reply_in, loan_in};
+ghost use Rattle.scm_book.specs.Plans.{IsKnown, known_reply, reply_in, loan_in};
 ghost use Rattle.scm_book.specs.Changes.{tells_of_change};
 ghost use Rattle.scm_book.specs.Journal.{count_of as count_in, GivesKept, IsCall, IsLegalBook};
 
@@ -18,7 +17,7 @@ mod calls;
 use crate::journal::Journal;
 use crate::loan::Loan;
 use crate::traces::Traces;
-use crate::{Call, Entry, Plan, Reply};
+use crate::{Call, Entry, Outlook, Plan, Reply};
 use scm_cells::Name;
 use scm_expand::{Outcome, Task};
 use scm_frontier::Steps;
@@ -161,7 +160,7 @@ impl Book {
     {
         match call {
             Call::Ask { name, mark } | Call::Why { name, mark } => self.traces.plan(name, *mark),
-            _ => Plan::Ready(None),
+            _ => Plan::Ready(Outlook::Unknown),
         }
     }
 
@@ -210,7 +209,7 @@ impl Book {
         ensures legal { IsLegalBook self.new }
     {
         let mut steps = self.traces.new_counter(&call);
-        let (reply, kept) = self.make(session, call, None, false, &mut steps);
+        let (reply, kept) = self.make(session, call, Outlook::Unknown, false, &mut steps);
         drop(kept);
         reply
     }
@@ -222,9 +221,9 @@ impl Book {
         &mut self,
         session: u16,
         call: Call,
-        known: Option<Reply>,
+        outlook: Outlook,
     ) -> (Reply, Option<(Arc<Call>, Reply)>)
-        requires { IsKnown self.old.machine (call_data call) (option_map reply_data known) }
+        requires { IsKnown self.old.machine (call_data call) (known_reply outlook) }
         ensures called { IsCall self.old session (call_data call) (reply_data result.0) self.new }
         ensures kept { GivesKept (call_data call) result.0 result.1 }
         ensures machine { tells_of_change (reply_data result.0) ≡ false → self.new.machine ≡ self.old.machine }
@@ -233,7 +232,7 @@ impl Book {
         ensures legal { IsLegalBook self.new }
     {
         let mut steps = self.traces.new_counter(&call);
-        self.make(session, call, known, true, &mut steps)
+        self.make(session, call, outlook, true, &mut steps)
     }
 
     /// Makes a call of a session, unless its reply is known, and counts the steps of a question. Where the call `is_kept` and
@@ -242,12 +241,12 @@ impl Book {
         &mut self,
         session: u16,
         call: Call,
-        known: Option<Reply>,
+        outlook: Outlook,
         is_kept: bool,
         steps: &mut Steps,
     ) -> (Reply, Option<(Arc<Call>, Reply)>)
         requires room { HasRoom self.old.machine (call_data call) steps.old }
-        requires known { IsKnown self.old.machine (call_data call) (option_map reply_data known) }
+        requires known { IsKnown self.old.machine (call_data call) (known_reply outlook) }
         ensures called { IsCall self.old session (call_data call) (reply_data result.0) self.new }
         ensures kept { is_kept ≡ true → GivesKept (call_data call) result.0 result.1 }
         ensures machine { tells_of_change (reply_data result.0) ≡ false → self.new.machine ≡ self.old.machine }
@@ -262,7 +261,7 @@ impl Book {
             return (Reply::Refused(Refusal::NoMemory), None);
         };
         let before = steps.made();
-        let reply = self.traces.call(session, &call, known, steps);
+        let reply = self.traces.call(session, &call, outlook, steps);
         self.steps = self.steps.saturating_add(steps.made() - before);
         if !reply.makes_entry() {
             return (reply, None);

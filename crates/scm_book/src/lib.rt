@@ -25,5 +25,5 @@ pub use call::{Call, Decl};
 pub use entry::Entry;
 pub use event::{Event, run_events};
 pub use loan::Loan;
-pub use plan::Plan;
+pub use plan::{Outlook, Plan};
 pub use reply::{Reply, Shown, Witness};

@@ -7,7 +7,6 @@ ghost use Rattle.scm_sequences.specs.Traces.{trace_of, cut_to};
 ghost use Rattle.scm_sequences.specs.Fronts.{IsSchedule};
 ghost use Rattle.scm_book.specs.Loans.{CanJudge};
 
-use crate::copying::copy_of_schedule;
 use crate::known_schedules::KnownSchedules;
 use crate::open_trace::Purpose;
 use scm_frontier::Situation;
@@ -19,6 +18,17 @@ use std::alloc::Global;
 
 /// A search among no more situations than this is short.
 const FEW_SITUATIONS: u64 = 256;
+
+/// How far the answer to a question is.
+#[derive(Clone, Copy)]
+pub(crate) enum Distance {
+    /// The set has it or is near to it.
+    Near,
+    /// There are few situations, or the set is full.
+    Unknown,
+    /// There may be many situations, and the set is neither full nor near to the answer.
+    Far,
+}
 
 /// What schedules are proposed for: the trace with these sequences, cut to these lengths.
 #[derive(Drop)]
@@ -66,8 +76,16 @@ impl Proposing<'_> {
         reach.holds_whole(self.sequences, self.lengths) || !reach.is_open(self.sequences)
     }
 
+    /// Whether the set has the answer, or a search in it is likely to be short. Nothing rests on it. What goes over the set comes
+    /// last.
+    fn is_near(&self, reach: &Reach) -> bool
+        requires { IsWithin self.now.lengths.now (lengths_of self.now.sequences.now) }
+    {
+        self.is_search_short(reach).unwrap_or(true) || self.is_settled(reach)
+    }
+
     /// What the heuristic proposes.
-    fn proposed(&self, reach: &Reach) -> Option<Vec<u8>> {
+    fn proposal(&self, reach: &Reach) -> Option<Vec<u8>> {
         let longest = self.schedules.longest();
         let room = self.room(reach);
         propose(
@@ -136,15 +154,34 @@ impl Proposing<'_> {
         ensures { IfSome result (λ schedule. IsSchedule (cut_to (trace_of reach.now.initials self.now.sequences.now) self.now.lengths.now) (reverse schedule.items)) }
     {
         if let Some(schedule) = self.known(reach) {
-            return copy_of_schedule(self.alloc, schedule).ok();
+            return Vec::from_slice(self.alloc, schedule).ok();
         }
-        if self.schedules.has_failed(self.lengths) || self.is_settled(reach) {
+        if self.schedules.has_failed(self.lengths) || self.is_near(reach) {
             return None;
         }
-        if self.is_search_short(reach)? {
+        self.proposed(reach)
+    }
+
+    /// A legal schedule of what is lent, to which none is known and whose set hasn't the answer. `None` as above.
+    pub(crate) fn legal_beside(&self, reach: &Reach) -> Option<Vec<u8>>
+        requires { CanJudge self.now.sequences.now self.now.lengths.now reach.now.initials }
+        ensures { IfSome result (λ schedule. IsSchedule (cut_to (trace_of reach.now.initials self.now.sequences.now) self.now.lengths.now) (reverse schedule.items)) }
+    {
+        if self.schedules.has_failed(self.lengths) {
             return None;
         }
-        let schedule = self.proposed(reach)?;
+        if matches!(self.purpose, Purpose::Work) && self.is_search_short(reach)? {
+            return None;
+        }
+        self.proposed(reach)
+    }
+
+    /// What the heuristic proposes, where it is legal.
+    fn proposed(&self, reach: &Reach) -> Option<Vec<u8>>
+        requires { CanJudge self.now.sequences.now self.now.lengths.now reach.now.initials }
+        ensures { IfSome result (λ schedule. IsSchedule (cut_to (trace_of reach.now.initials self.now.sequences.now) self.now.lengths.now) (reverse schedule.items)) }
+    {
+        let schedule = self.proposal(reach)?;
         if self.fits(reach, &schedule) {
             Some(schedule)
         } else {
@@ -152,18 +189,18 @@ impl Proposing<'_> {
         }
     }
 
-    /// Whether the question, to which no schedule is known, is likely to take long: there may be many situations, the set is
-    /// neither full nor near to the answer, and hasn't it. Nothing rests on it. What goes over the set comes last.
-    pub(crate) fn is_long(&self, reach: &Reach) -> bool
-        requires { CanJudge self.now.sequences.now self.now.lengths.now reach.now.initials }
+    /// How far the answer is, to which no schedule is known.
+    pub(crate) fn distance(&self, reach: &Reach) -> Distance
+        requires { IsWithin self.now.lengths.now (lengths_of self.now.sequences.now) }
     {
         if has_few_situations(self.lengths, self.limit) || reach.held() >= self.limit {
-            return false;
+            return Distance::Unknown;
         }
-        if self.is_search_short(reach).unwrap_or(true) {
-            return false;
+        if self.is_near(reach) {
+            Distance::Near
+        } else {
+            Distance::Far
         }
-        !self.is_settled(reach)
     }
 
     /// Whether a question about the trace would search: the set has room and hasn't the answer, and no schedule is known.

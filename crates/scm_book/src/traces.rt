@@ -2,12 +2,11 @@
 ghost use Rattle.std.specs.Prelude.{◌≡◌, ◌↔◌, [], is_ok, IfOk, IfErr, IsTrue};
 ghost use Rattle.std.specs.Arc.{arc_value};
 ghost use Rattle.std.specs.Map.{remove_entry};
-ghost use Rattle.std.specs.Option.{option_map};
 ghost use Rattle.indexmap.specs.IndexMap.{insert_entry};
 ghost use Rattle.scm_cells.specs.Names.{name_eq};
 ghost use Rattle.scm_book.specs.Calls.{call_data, reply_data, opens, claims, releases, reports, sets_mark, goes_back, raises, asks, asks_why, asks_cycle, shows, lists, closes};
 ghost use Rattle.scm_book.specs.Machine.{trace_names};
-ghost use Rattle.scm_book.specs.Plans.{IsKnown};
+ghost use Rattle.scm_book.specs.Plans.{IsKnown, known_reply};
 ghost use Rattle.scm_book.specs.Refusals.{place_cause};
 ghost use Rattle.scm_book.specs.Sets.{machine_in, sets_in, HasRoom, HasRoomFor, HoldsFor, IfDone, HasNewSet, CutsSet, SearchesSet, LeavesSets};
 ghost use Rattle.scm_book.specs.Steps.{IsStepOrNoMemory};
@@ -16,7 +15,7 @@ mod lending;
 mod working;
 
 use crate::open_trace::OpenTrace;
-use crate::{Call, Decl, Reply};
+use crate::{Call, Decl, Outlook, Reply};
 use indexmap::IndexMap;
 use scm_cells::Name;
 use scm_frontier::Steps;
@@ -188,7 +187,14 @@ impl Traces {
         }
     }
 
-    fn ask(&mut self, session: u16, name: Name, mark: Option<u64>, steps: &mut Steps) -> Reply
+    fn ask(
+        &mut self,
+        session: u16,
+        name: Name,
+        mark: Option<u64>,
+        is_near: bool,
+        steps: &mut Steps,
+    ) -> Reply
         requires room { HasRoomFor (machine_in self.old) name steps.old }
         ensures step { IsStepOrNoMemory (machine_in self.old) session (asks name mark) (reply_data result) (machine_in self.new) }
         ensures sets { SearchesSet (machine_in self.old) (sets_in self.old) name mark (reply_data result) steps.old steps.new (sets_in self.new) }
@@ -196,13 +202,20 @@ impl Traces {
         let Some(trace) = self.traces.get_mut(&name) else {
             return Reply::Refused(Refusal::NoSuchTrace);
         };
-        match trace.ask(self.alloc, mark, steps) {
+        match trace.ask(self.alloc, mark, is_near, steps) {
             Ok(verdict) => verdict,
             Err(refusal) => Reply::Refused(refusal),
         }
     }
 
-    fn why(&mut self, session: u16, name: Name, mark: Option<u64>, steps: &mut Steps) -> Reply
+    fn why(
+        &mut self,
+        session: u16,
+        name: Name,
+        mark: Option<u64>,
+        is_near: bool,
+        steps: &mut Steps,
+    ) -> Reply
         requires room { HasRoomFor (machine_in self.old) name steps.old }
         ensures step { IsStepOrNoMemory (machine_in self.old) session (asks_why name mark) (reply_data result) (machine_in self.new) }
         ensures sets { SearchesSet (machine_in self.old) (sets_in self.old) name mark (reply_data result) steps.old steps.new (sets_in self.new) }
@@ -210,7 +223,7 @@ impl Traces {
         let Some(trace) = self.traces.get_mut(&name) else {
             return Reply::Refused(Refusal::NoSuchTrace);
         };
-        match trace.why(self.alloc, mark, steps) {
+        match trace.why(self.alloc, mark, is_near, steps) {
             Ok(verdict) => verdict,
             Err(refusal) => Reply::Refused(refusal),
         }
@@ -313,21 +326,23 @@ impl Traces {
         &mut self,
         session: u16,
         call: &Call,
-        known: Option<Reply>,
+        outlook: Outlook,
         steps: &mut Steps,
     ) -> Reply
         requires room { HasRoom (machine_in self.old) (call_data call.now) steps.old }
-        requires known { IsKnown (machine_in self.old) (call_data call.now) (option_map reply_data known) }
+        requires known { IsKnown (machine_in self.old) (call_data call.now) (known_reply outlook) }
         ensures step { IsStepOrNoMemory (machine_in self.old) session (call_data call.now) (reply_data result) (machine_in self.new) }
         ensures sets { LeavesSets (machine_in self.old) (sets_in self.old) (call_data call.now) (reply_data result) steps.old steps.new (sets_in self.new) }
     {
-        match known {
-            Some(reply) => reply,
-            None => self.make(session, call, steps),
+        match outlook {
+            Outlook::Known(reply) => reply,
+            Outlook::Near => self.make(session, call, true, steps),
+            Outlook::Unknown => self.make(session, call, false, steps),
         }
     }
 
-    fn make(&mut self, session: u16, call: &Call, steps: &mut Steps) -> Reply
+    /// The same, where the answer to a question may be near.
+    fn make(&mut self, session: u16, call: &Call, is_near: bool, steps: &mut Steps) -> Reply
         requires room { HasRoom (machine_in self.old) (call_data call.now) steps.old }
         ensures step { IsStepOrNoMemory (machine_in self.old) session (call_data call.now) (reply_data result) (machine_in self.new) }
         ensures sets { LeavesSets (machine_in self.old) (sets_in self.old) (call_data call.now) (reply_data result) steps.old steps.new (sets_in self.new) }
@@ -349,8 +364,8 @@ impl Traces {
             Call::SetMark { name } => self.mark(session, *name),
             Call::GoBack { name, mark } => self.back(session, *name, *mark),
             Call::RaiseBudget { name, budget } => self.raise(session, *name, *budget),
-            Call::Ask { name, mark } => self.ask(session, *name, *mark, steps),
-            Call::Why { name, mark } => self.why(session, *name, *mark, steps),
+            Call::Ask { name, mark } => self.ask(session, *name, *mark, is_near, steps),
+            Call::Why { name, mark } => self.why(session, *name, *mark, is_near, steps),
             Call::Cycle { name, mark } => self.cycle(session, *name, *mark),
             Call::ShowOps { name, process } => self.show(session, *name, *process),
             Call::ListTraces => self.list(session),

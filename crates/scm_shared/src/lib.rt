@@ -2,7 +2,7 @@
 #![tactic(auto)]
 
 mod audit;
-mod callers;
+mod caller_counts;
 mod comparing;
 mod length_word;
 mod locked;

@@ -8,7 +8,7 @@ ghost use Rattle.scm_results.specs.Tallies.{nothing, nothing_counted};
 ghost use Rattle.scm_book.specs.Calls.{call_data, reply_data, refused};
 ghost use Rattle.scm_book.specs.Journal.{makes_entry, IsUnchanged};
 ghost use Rattle.scm_book.specs.Loans.{IsLending, IsLendingForWork, IsTakingBack};
-ghost use Rattle.scm_book.specs.Plans.{IsKnown};
+ghost use Rattle.scm_book.specs.Plans.{IsKnown, known_reply};
 ghost use Rattle.scm_book.specs.Workers.{IsTaking, IsDelivery};
 ghost use Rattle.scm_shared.specs.Locking.{with_one_entered, KeepsCounts, IsLockedCall, IsSearchedCall};
 ghost use Rattle.scm_shared.specs.Passes.{newcomer, Extended, SeenFull};
@@ -18,7 +18,7 @@ use crate::length_word::LengthWord;
 use crate::word::View;
 use crate::{BookNaming, Made, Pass};
 use atomic_table::Seat;
-use scm_book::{Book, Call, Entry, Loan, Plan, Reply};
+use scm_book::{Book, Call, Entry, Loan, Outlook, Plan, Reply};
 use scm_expand::{Outcome, Task};
 use scm_results::{Results, Tally, Token, Totals};
 use scm_sequences::{MOST_ENTRIES, MOST_SESSIONS, NoMemory, Refusal};
@@ -144,9 +144,9 @@ impl<B: BookNaming> Locked<B> {
         length_word: &LengthWord<B>,
         pass: &mut Pass<B>,
         call: Call,
-        known: Option<Reply>,
+        outlook: Outlook,
     ) -> Reply
-        requires { IsKnown self.old.book.machine (call_data call) (option_map reply_data known) }
+        requires { IsKnown self.old.book.machine (call_data call) (known_reply outlook) }
         ensures made { makes_entry (reply_data result) ≡ true → Extended pass.old (call_data call) (reply_data result) pass.new }
         ensures full { reply_data result ≡ refused JournalFull → SeenFull pass.old pass.new }
         ensures refused { reply_data result ≡ refused WithoutMemory → pass.new ≡ pass.old }
@@ -159,7 +159,7 @@ impl<B: BookNaming> Locked<B> {
         if pass.kept.reserve(1).is_err() {
             return Reply::Refused(Refusal::NoMemory);
         }
-        let (reply, kept) = self.book.call_kept(pass.number, call, known);
+        let (reply, kept) = self.book.call_kept(pass.number, call, outlook);
         match kept {
             Some(kept) => {
                 let entries = self.book.entries();
@@ -197,7 +197,7 @@ impl<B: BookNaming> Locked<B> {
         ensures counts { KeepsCounts self.old self.new }
     {
         match self.book.plan(&call) {
-            Plan::Ready(known) => Ok(self.call(length_word, pass, call, known)),
+            Plan::Ready(outlook) => Ok(self.call(length_word, pass, call, outlook)),
             Plan::Waits => Err((call, None)),
             Plan::Long(lent) => Err((call, Some(BookLoan::new(lent)))),
         }
@@ -220,7 +220,7 @@ impl<B: BookNaming> Locked<B> {
         ensures counts { KeepsCounts self.old self.new }
     {
         self.take_back(loan);
-        self.call(length_word, pass, call, None)
+        self.call(length_word, pass, call, Outlook::Unknown)
     }
 
     /// The set of a trace, lent for work.

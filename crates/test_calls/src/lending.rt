@@ -1,12 +1,11 @@
 //! Questions that are lent by a book, and what is taken back after whatever happened meanwhile.
 
-ghost use Rattle.std.specs.Option.{option_map};
-ghost use Rattle.scm_book.specs.Calls.{call_data, reply_data};
-ghost use Rattle.scm_book.specs.Plans.{IsKnown};
+ghost use Rattle.scm_book.specs.Calls.{call_data};
+ghost use Rattle.scm_book.specs.Plans.{IsKnown, known_reply};
 
 use crate::words::{ANNA, call_of, name, play, played, says};
 use crate::work::awaits;
-use scm_book::{Book, Call, Event, Loan, Plan, Reply, run_events};
+use scm_book::{Book, Call, Event, Loan, Outlook, Plan, Reply, run_events};
 use scm_frontier::Steps;
 use std::alloc::Global;
 use std::process::Abort;
@@ -109,7 +108,7 @@ fn a_question_waits_for_another(rt: HostRuntime) {
     let loan = searched(&rt, rt.alloc(), &mut book);
     assert!(rt; awaits(&rt, rt.alloc(), &mut book, "why t") && !book.may_want_work());
     book.take_back(loan);
-    assert_ready(&rt, rt.alloc(), &mut book, "why t");
+    assert_ready(&rt, rt.alloc(), &mut book, "why t", true);
     drop(book);
 }
 
@@ -184,10 +183,15 @@ fn a_raised_budget_goes_on(rt: HostRuntime) {
     drop(book);
 }
 
-fn assert_ready(rt: &impl Abort, alloc: Global, book: &mut Book, line: &str) {
+/// The call is made at once, and its answer is near or not.
+fn assert_ready(rt: &impl Abort, alloc: Global, book: &mut Book, line: &str, is_near: bool) {
     let call = call_of(rt, alloc, line);
     let plan = book.plan(&call);
-    let is_ready = matches!(plan, Plan::Ready(None));
+    let is_ready = match &plan {
+        Plan::Ready(Outlook::Near) => is_near,
+        Plan::Ready(Outlook::Unknown) => !is_near,
+        _ => false,
+    };
     drop(plan);
     drop(call);
     assert!(rt; is_ready);
@@ -197,22 +201,22 @@ fn assert_ready(rt: &impl Abort, alloc: Global, book: &mut Book, line: &str) {
 fn nothing_is_lent_where_the_answer_is_there(rt: HostRuntime) {
     let mut book = forbidden(&rt, rt.alloc());
     assert_searched(&rt, &mut book);
-    for line in ["ask t", "list"] {
-        assert_ready(&rt, rt.alloc(), &mut book, line);
+    for (line, is_near) in [("ask t", true), ("list", false)] {
+        assert_ready(&rt, rt.alloc(), &mut book, line, is_near);
     }
     assert_held(&rt, &book, SITUATIONS);
     drop(book);
 }
 
 /// The reply that the plan of a call carries.
-fn carried(book: &mut Book, call: &Call) -> Option<Reply>
-    ensures { IsKnown book.new.machine (call_data call.now) (option_map reply_data result) }
+fn carried(book: &mut Book, call: &Call) -> Outlook
+    ensures { IsKnown book.new.machine (call_data call.now) (known_reply result) }
 {
     match book.plan(call) {
-        Plan::Ready(known) => known,
+        Plan::Ready(outlook) => outlook,
         other => {
             drop(other);
-            None
+            Outlook::Unknown
         }
     }
 }
@@ -220,9 +224,9 @@ fn carried(book: &mut Book, call: &Call) -> Option<Reply>
 /// A known schedule of t is carried by the plan of a question, and answers it with no step.
 fn assert_carried(rt: &impl Abort, alloc: Global, book: &mut Book) {
     let ask = call_of(rt, alloc, "ask t");
-    let known = carried(book, &ask);
-    let is_known = known.is_some();
-    let (reply, kept) = book.call_kept(ANNA, ask, known);
+    let outlook = carried(book, &ask);
+    let is_known = matches!(outlook, Outlook::Known(_));
+    let (reply, kept) = book.call_kept(ANNA, ask, outlook);
     let is_consistent = says(&reply, "consistent");
     drop(reply);
     let is_kept = kept.is_some();

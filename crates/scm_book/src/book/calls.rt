@@ -6,7 +6,7 @@ ghost use Rattle.scm_results.specs.Totals.{capped};
 ghost use Rattle.scm_book.specs.Journal.{IsCall, IsLegalBook};
 
 use super::Book;
-use crate::{Call, Decl, Reply};
+use crate::{Call, Decl, Outlook, Reply};
 use scm_cells::Name;
 use scm_frontier::Steps;
 use scm_lowering::Access;
@@ -107,7 +107,13 @@ impl Book {
         ensures counted { self.new.steps ≡ capped (self.old.steps + (steps.new - steps.old)) }
         ensures legal { IsLegalBook self.new }
     {
-        let (reply, kept) = self.make(session, Call::Ask { name, mark }, None, false, steps);
+        let (reply, kept) = self.make(
+            session,
+            Call::Ask { name, mark },
+            Outlook::Unknown,
+            false,
+            steps,
+        );
         drop(kept);
         reply
     }
@@ -120,7 +126,13 @@ impl Book {
         ensures counted { self.new.steps ≡ capped (self.old.steps + (steps.new - steps.old)) }
         ensures legal { IsLegalBook self.new }
     {
-        let (reply, kept) = self.make(session, Call::Why { name, mark }, None, false, steps);
+        let (reply, kept) = self.make(
+            session,
+            Call::Why { name, mark },
+            Outlook::Unknown,
+            false,
+            steps,
+        );
         drop(kept);
         reply
     }

@@ -1,10 +1,10 @@
 //! Questions about an open trace.
 ghost use Rattle.std.specs.Prelude.{◌≡◌, ◌+◌, ◌<◌, ◌^◌, length, None, Ok, Err, IfOk, IfErr, MatchResult};
 ghost use Rattle.scm_sequences.specs.Refusals.{Refuses};
-ghost use Rattle.scm_book.specs.Asking.{lengths_at_mark, AsksFor};
+ghost use Rattle.scm_book.specs.Asking.{AsksFor};
 ghost use Rattle.scm_book.specs.Calls.{reply_data, answer_data};
 ghost use Rattle.scm_book.specs.Refusals.{question_cause};
-ghost use Rattle.scm_book.specs.Sets.{most_steps, SearchesAt};
+ghost use Rattle.scm_book.specs.Sets.{lengths_at_mark, most_steps, SearchesAt};
 ghost use Rattle.scm_book.specs.Sound.{IsKeptFor};
 ghost use Rattle.scm_book.specs.Steps.{Asks, AsksCycle, AsksWhy};
 
@@ -32,11 +32,13 @@ pub(super) fn lengths_at<'a>(
 }
 
 impl OpenTrace {
-    /// Whether the trace is consistent under its budget, as it is or as it stood at a mark. Refused `NoSuchMark`.
+    /// Whether the trace is consistent under its budget, as it is or as it stood at a mark. Where the answer `is_near`, no
+    /// schedule is looked for. Refused `NoSuchMark`.
     pub(crate) fn ask(
         &mut self,
         alloc: Global,
         mark: Option<u64>,
+        is_near: bool,
         steps: &mut Steps,
     ) -> Result<Reply, Refusal>
         requires room { steps.old + most_steps self.old.state < 2 ^ 64 }
@@ -45,7 +47,7 @@ impl OpenTrace {
         ensures same { self.new.state ≡ self.old.state }
         ensures set { SearchesAt self.old.state mark (answer_data result) steps.old steps.new self.old.set self.new.set }
     {
-        self.question(alloc, mark, false, steps)
+        self.question(alloc, mark, false, is_near, steps)
     }
 
     /// The same, with a refutation where the trace is not consistent. Refused `NoSuchMark`.
@@ -53,6 +55,7 @@ impl OpenTrace {
         &mut self,
         alloc: Global,
         mark: Option<u64>,
+        is_near: bool,
         steps: &mut Steps,
     ) -> Result<Reply, Refusal>
         requires room { steps.old + most_steps self.old.state < 2 ^ 64 }
@@ -61,7 +64,7 @@ impl OpenTrace {
         ensures same { self.new.state ≡ self.old.state }
         ensures set { SearchesAt self.old.state mark (answer_data result) steps.old steps.new self.old.set self.new.set }
     {
-        self.question(alloc, mark, true, steps)
+        self.question(alloc, mark, true, is_near, steps)
     }
 
     /// Answers the question; where it `explains`, `Because` stands for `Inconsistent`.
@@ -70,6 +73,7 @@ impl OpenTrace {
         alloc: Global,
         mark: Option<u64>,
         explains: bool,
+        is_near: bool,
         steps: &mut Steps,
     ) -> Result<Reply, Refusal>
         requires room { steps.old + most_steps self.old.state < 2 ^ 64 }
@@ -87,6 +91,7 @@ impl OpenTrace {
             lengths,
             limit: self.budget.limit(),
             explains,
+            is_near,
             schedules: &self.schedules,
         };
         let reply = question.answer(&mut self.reach, steps)?;

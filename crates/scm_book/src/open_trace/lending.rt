@@ -1,7 +1,5 @@
 //! Questions about an open trace that are searched beside it.
 ghost use Rattle.std.specs.Prelude.{◌≡◌, ◌↔◌, IfSome, IsTrue, MatchOption, None, Ok};
-ghost use Rattle.scm_sequences.specs.Lengths.{IsWithin};
-ghost use Rattle.scm_sequences.specs.Sequences.{lengths_of};
 ghost use Rattle.scm_sequences.specs.Traces.{trace_of};
 ghost use Rattle.scm_cells.specs.CellLists.{initials_of};
 ghost use Rattle.scm_reach.specs.Kept.{IsKept};
@@ -23,8 +21,8 @@ use std::mem;
 
 impl OpenTrace {
     /// The question about the present trace, or as it stood at a mark, to be searched elsewhere, with the set that is kept
-    /// for the trace; the start alone stays here. `None`, with everything as it was, where the mark isn't there, the purpose
-    /// doesn't want it, or memory is refused.
+    /// for the trace; the start alone stays here. `None`, with everything as it was, where the mark isn't there or memory is
+    /// refused.
     pub(super) fn lend(
         &mut self,
         alloc: Global,
@@ -37,9 +35,6 @@ impl OpenTrace {
     {
         let _most = self.most_steps();
         let lengths = self.lengths_of_question(alloc, mark)?;
-        if !self.is_wanted(alloc, &lengths, purpose) {
-            return None;
-        }
         let schedules = self.schedules.copy()?;
         let Ok(sequences) = copy_of_sequences(alloc, &self.sequences) else {
             return None;
@@ -72,22 +67,18 @@ impl OpenTrace {
         }
     }
 
-    /// Whether the purpose wants the set, for the trace cut to these lengths.
-    fn is_wanted(&self, alloc: Global, lengths: &Lengths, purpose: Purpose) -> bool
-        requires { IsWithin lengths.now (lengths_of self.now.state.sequences) }
-    {
+    /// Whether a question about it would search.
+    fn wants_work(&self, alloc: Global) -> bool {
+        let lengths = self.sequences.lengths();
         let proposing = Proposing {
             alloc,
             sequences: &self.sequences,
-            lengths,
+            lengths: &lengths,
             limit: self.budget.limit(),
             schedules: &self.schedules,
-            purpose,
+            purpose: Purpose::Work,
         };
-        match purpose {
-            Purpose::Answer => proposing.is_long(&self.reach),
-            Purpose::Work => proposing.wants_work(&self.reach),
-        }
+        proposing.wants_work(&self.reach)
     }
 
     /// Whether its set is to be lent for work, as far as can be told with no look at it.
@@ -112,7 +103,7 @@ impl OpenTrace {
         ensures lends { MatchOption result (self.new.set ≡ self.old.set) (λ loan. Lends name None self.old.state self.old.set loan self.new.set) }
     {
         self.loan_state.look();
-        if matches!(self.follow_reports(alloc), Some(0)) {
+        if matches!(self.follow_reports(alloc), Some(0)) || !self.wants_work(alloc) {
             return None;
         }
         self.lend(alloc, name, None, Purpose::Work)

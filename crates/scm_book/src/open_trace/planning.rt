@@ -6,8 +6,9 @@ ghost use Rattle.scm_book.specs.Plans.{IsExplained, reply_in, loan_in};
 
 use super::asking::lengths_at;
 use super::{OpenTrace, Purpose};
+use crate::proposing::{Distance, Proposing};
 use crate::question::Question;
-use crate::{Plan, Reply};
+use crate::{Outlook, Plan, Reply};
 use scm_cells::Name;
 use scm_sequences::Refusal;
 use std::alloc::Global;
@@ -22,8 +23,8 @@ impl OpenTrace {
     {
         match self.known_reply(alloc, mark) {
             Ok(None) => self.plan_search(alloc, name, mark),
-            Ok(Some(reply)) => Plan::Ready(Some(reply)),
-            Err(_) => Plan::Ready(None),
+            Ok(Some(reply)) => Plan::Ready(Outlook::Known(reply)),
+            Err(_) => Plan::Ready(Outlook::Unknown),
         }
     }
 
@@ -42,6 +43,7 @@ impl OpenTrace {
             lengths,
             limit: self.budget.limit(),
             explains: false,
+            is_near: false,
             schedules: &self.schedules,
         };
         let known = question.known(&self.reach)?;
@@ -58,9 +60,31 @@ impl OpenTrace {
         if !self.loan_state.is_here() {
             return Plan::Waits;
         }
+        match self.distance(alloc, mark) {
+            Distance::Near => return Plan::Ready(Outlook::Near),
+            Distance::Unknown => return Plan::Ready(Outlook::Unknown),
+            Distance::Far => {}
+        }
         match self.lend(alloc, name, mark, Purpose::Answer) {
             Some(loan) => Plan::Long(loan),
-            None => Plan::Ready(None),
+            None => Plan::Ready(Outlook::Unknown),
         }
+    }
+
+    /// How far the answer to a question is, to which no schedule is known.
+    fn distance(&self, alloc: Global, mark: Option<u64>) -> Distance {
+        let present = self.sequences.lengths();
+        let Ok(lengths) = lengths_at(&self.marks, &present, mark) else {
+            return Distance::Unknown;
+        };
+        let proposing = Proposing {
+            alloc,
+            sequences: &self.sequences,
+            lengths,
+            limit: self.budget.limit(),
+            schedules: &self.schedules,
+            purpose: Purpose::Answer,
+        };
+        proposing.distance(&self.reach)
     }
 }

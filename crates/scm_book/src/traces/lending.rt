@@ -6,8 +6,8 @@ ghost use Rattle.scm_book.specs.Plans.{IsExplained, reply_in, loan_in};
 ghost use Rattle.scm_book.specs.Steps.{InTrace};
 
 use super::Traces;
-use crate::Plan;
 use crate::loan::Loan;
+use crate::{Outlook, Plan};
 use scm_cells::Name;
 
 impl Traces {
@@ -18,7 +18,7 @@ impl Traces {
         ensures known { IfSome (reply_in result) (λ reply. InTrace (machine_in self.new) name.now (λ state. IsExplained state mark reply)) }
     {
         let Some(trace) = self.traces.get_mut(name) else {
-            return Plan::Ready(None);
+            return Plan::Ready(Outlook::Unknown);
         };
         trace.plan(self.alloc, *name, mark)
     }

@@ -6,14 +6,9 @@ use Rattle.scm_reach.specs.Kept.{Kept}
 use Rattle.scm_book.specs.Loans.{CanSearch}
 use Rattle.scm_book.specs.Machine.{TraceState}
 use Rattle.scm_book.specs.Sets.{KeptTrace, asked_lengths, most_steps}
-use Rattle.scm_book.specs.Sound.{IsSoundTrace, IsKeptFor}
-use Rattle.scm_book.proofs.AskedLengths.{IsWithin-asked}
+use Rattle.scm_book.specs.Sound.{IsKeptFor}
 use Rattle.scm_book.proofs.LendingLaws.{can_search, IsKeptFor-start}
 use Rattle.scm_book.proofs.open_trace.OpenTrace.lend.Goals as goal
-
-pub is_wanted-requires : goal.is_wanted-requires
-is_wanted-requires c =
-    IsWithin-asked c.args.self.now.state c.args.mark c.in_ok-lengths.lengths (subst (λ (k : KeptTrace). IsSoundTrace k.state) c.self.view_is c.self.invariant.0) c.in_ok-lengths.ensures
 
 pub invariant_of-result : goal.invariant_of-result
 invariant_of-result c =

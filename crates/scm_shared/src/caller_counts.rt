@@ -10,17 +10,17 @@ const REST_MILLIS: u64 = 2;
 /// Counts how often callers came and went, and remembers the last count at which it is known that they rested. It stands
 /// beside the lock.
 #[derive(Drop)]
-pub(crate) struct Callers {
+pub(crate) struct CallerCounts {
     came: AtomicU64,
     went: AtomicU64,
     rested: AtomicU64,
     ended: AtomicU64,
 }
 
-impl Callers {
+impl CallerCounts {
     /// Nobody came.
-    pub(crate) fn new() -> Callers {
-        Callers {
+    pub(crate) fn new() -> CallerCounts {
+        CallerCounts {
             came: AtomicU64::new(0),
             went: AtomicU64::new(0),
             rested: AtomicU64::new(0),
