@@ -5,15 +5,15 @@ use Rattle.scm_book.specs.declared.reply.Reply.{Reply}
 use Rattle.scm_book.specs.declared.reply.Reply.TheVariants.{Refused}
 use Rattle.scm_book.specs.Calls.{CallData, ReplyData, refused, reply_data}
 use Rattle.scm_sessions.specs.declared.replies.Answer.{Answer}
-use Rattle.scm_sessions.specs.Asking.{Asked, nothing, bad, good, name_in}
+use Rattle.scm_sessions.specs.Asking.{AskedData, nothing, bad, good, name_in}
 use Rattle.scm_sessions.specs.Replies.{reply_line}
 use Rattle.scm_sessions.specs.Exchanges.{Exchange, exchange, has_reply, Answers}
 use Rattle.scm_sessions.specs.Answering.{AnswersWith}
 
-asked_alone : (asked : Asked) → has_reply asked ≡ true → asked ∷ [] ≡ filter has_reply (asked ∷ [])
+asked_alone : (asked : AskedData) → has_reply asked ≡ true → asked ∷ [] ≡ filter has_reply (asked ∷ [])
 asked_alone asked some = rw some refl
 
-without_memory : {S : Type 0} (Calls : S → List ℕ → CallData → ReplyData → S → Type 0) (old : S) (asked : Asked) (name : List ℕ) → name_in asked ≡ Some name
+without_memory : {S : Type 0} (Calls : S → List ℕ → CallData → ReplyData → S → Type 0) (old : S) (asked : AskedData) (name : List ℕ) → name_in asked ≡ Some name
     → (has_reply asked ≡ true) × Answers Calls old asked (refused NoMemory) old
 without_memory Calls old nothing name asks = absurd (cc)
 without_memory Calls old (bad n) name asks = (refl, (inr refl, refl))
@@ -29,7 +29,7 @@ module _ {S : Type 0} {Calls : S → List ℕ → CallData → ReplyData → S �
   AnswersWith-nothing old = record { line = record { exchanges = []; all = refl; lead = refl; replied = refl }; replies = refl }
 
   -- a line that has a reply
-  AnswersWith-some : (old : S) (asked : Asked) (reply : Reply) (new : S) → has_reply asked ≡ true
+  AnswersWith-some : (old : S) (asked : AskedData) (reply : Reply) (new : S) → has_reply asked ≡ true
       → Answers Calls old asked (reply_data reply) new → AnswersWith Calls old asked (answered (name_in asked) reply) new
   AnswersWith-some old asked reply new some answers = record {
     line = record {
@@ -51,7 +51,7 @@ module _ {S : Type 0} {Calls : S → List ℕ → CallData → ReplyData → S �
   AnswersWith-good old name call reply new answers = AnswersWith-some old (good name call) reply new refl answers
 
   -- memory was refused for what a line asks
-  pub AnswersWith-unread : (old : S) (asked : Asked) (name : List ℕ) → name_in asked ≡ Some name
+  pub AnswersWith-unread : (old : S) (asked : AskedData) (name : List ℕ) → name_in asked ≡ Some name
       → AnswersWith Calls old asked (answered (Some name) (Refused NoMemory)) old
   AnswersWith-unread old asked name asks =
       let without = without_memory Calls old asked name asks in

@@ -16,8 +16,8 @@ use Rattle.scm_sessions.specs.Ports.{AppendsPart}
 use Rattle.scm_sessions.specs.Callers.{callers, AreNumberedFrom, made_by}
 use Rattle.scm_sessions.specs.SharedRuns.{AllFit, IsSharedRun}
 use Rattle.scm_sessions.specs.JournalText.{AreNamed}
-use Rattle.scm_sessions.specs.Groups.{Group, groups_of, grouped, GroupsWhole, GroupsWholeLines}
-use Rattle.scm_sessions.specs.Jobs.{Job, AreBegun, AllAnswered, jobs_text, entered_names, entered_passes, with_jobs, lines_in, replies_in}
+use Rattle.scm_sessions.specs.Groups.{GroupData, groups_of, grouped, GroupsWhole, GroupsWholeLines}
+use Rattle.scm_sessions.specs.Jobs.{JobData, AreBegun, AllAnswered, jobs_text, entered_names, entered_passes, with_jobs, lines_in, replies_in}
 use Rattle.scm_sessions.specs.EachRuns.{group_findings_of, FindsGroups, RunsGroupsWholeLines, RunsGroupsPart}
 use Rattle.scm_sessions.proofs.Sharing.{agreed_by, covered_named}
 use Rattle.scm_sessions.proofs.GroupNames.{AreOf, AreApart, groups_apart}
@@ -27,14 +27,14 @@ use Rattle.scm_sessions.proofs.GroupAnswers.{HasAnswered, HasAnswered-from}
 -- ---- what was read
 
 -- a script was read, or a part of it, and these are the groups of its lines
-pub record ReadGroups (script left : Option (List ℕ)) (groups : List Group) : Type 0 where
+pub record ReadGroups (script left : Option (List ℕ)) (groups : List GroupData) : Type 0 where
   pub bytes : List ℕ
   pub lines : List Line
   pub consumed : Consumes script left bytes
   pub lines_are : (lines ≡ whole_lines_of bytes) ⊎ (IsAtEnd left × (lines ≡ lines_of bytes))
   pub are : groups ≡ groups_of (numbered_in lines)
 
-pub ReadGroups-whole : {script left : Option (List ℕ)} {groups : List Group} {found : Findings} → GroupsWhole script left groups found → ReadGroups script left groups
+pub ReadGroups-whole : {script left : Option (List ℕ)} {groups : List GroupData} {found : Findings} → GroupsWhole script left groups found → ReadGroups script left groups
 ReadGroups-whole read = record {
   bytes = read.bytes;
   lines = lines_of read.bytes;
@@ -43,7 +43,7 @@ ReadGroups-whole read = record {
   are = read.grouped;
 }
 
-pub ReadGroups-lines : {script left : Option (List ℕ)} {groups : List Group} → GroupsWholeLines script left groups → ReadGroups script left groups
+pub ReadGroups-lines : {script left : Option (List ℕ)} {groups : List GroupData} → GroupsWholeLines script left groups → ReadGroups script left groups
 ReadGroups-lines read = record {
   bytes = read.bytes;
   lines = whole_lines_of read.bytes;
@@ -53,7 +53,7 @@ ReadGroups-lines read = record {
 }
 
 -- whether a read failed or not
-pub ReadGroups-read : {script left : Option (List ℕ)} {groups : List Group} {found : Findings} (failed : Bool)
+pub ReadGroups-read : {script left : Option (List ℕ)} {groups : List GroupData} {found : Findings} (failed : Bool)
     → (failed ≡ false → GroupsWhole script left groups found)
     → (failed ≡ true → GroupsWholeLines script left groups) → ReadGroups script left groups
 ReadGroups-read false whole part = ReadGroups-whole (whole refl)
@@ -66,35 +66,35 @@ All-of name [] are = All-nil (λ (l : Numbered). has_reply l.asked ≡ true)
 All-of name (l ∷ lines) are = All-cons (λ (l : Numbered). has_reply l.asked ≡ true) l lines are.0 (All-of name lines are.2)
 
 -- each line of this job has a reply
-abbrev pub HasReplies : Job → Type 0
+abbrev pub HasReplies : JobData → Type 0
 HasReplies job = All (λ line. has_reply line.asked ≡ true) job.lines
 
-All-begun : (number : ℕ) (groups : List Group) (jobs : List Job) → AreApart groups → AreBegun number groups jobs → All HasReplies jobs
+All-begun : (number : ℕ) (groups : List GroupData) (jobs : List JobData) → AreApart groups → AreBegun number groups jobs → All HasReplies jobs
 All-begun number [] [] apart begin = All-nil HasReplies
 All-begun number [] (job ∷ jobs) apart begin = absurd begin
 All-begun number (g ∷ groups) [] apart begin = absurd begin
 All-begun number (g ∷ groups) (job ∷ jobs) apart (inl begin) =
-    let lines : job.lines ≡ g.lines = ap (λ (j : Job). j.lines) begin.0 in
+    let lines : job.lines ≡ g.lines = ap (λ (j : JobData). j.lines) begin.0 in
     All-cons HasReplies job jobs (subst (All (λ (l : Numbered). has_reply l.asked ≡ true)) (sym lines) (All-of g.name g.lines apart.0))
     (All-begun number groups jobs apart.2 begin.1)
 All-begun number (g ∷ groups) (job ∷ jobs) apart (inr begin) =
-    let lines : job.lines ≡ g.lines = ap (λ (j : Job). j.lines) begin.0.begins_so in
+    let lines : job.lines ≡ g.lines = ap (λ (j : JobData). j.lines) begin.0.begins_so in
     All-cons HasReplies job jobs (subst (All (λ (l : Numbered). has_reply l.asked ≡ true)) (sym lines) (All-of g.name g.lines apart.0))
     (All-begun (number + 1) groups jobs apart.2 begin.1)
 
-apart_of : {script left : Option (List ℕ)} {groups : List Group} → ReadGroups script left groups → AreApart groups
+apart_of : {script left : Option (List ℕ)} {groups : List GroupData} → ReadGroups script left groups → AreApart groups
 apart_of read = subst AreApart (sym read.are) (groups_apart read.lines)
 
-pub begun_reply : {script left : Option (List ℕ)} {groups : List Group} (begins : List Job) → ReadGroups script left groups → AreBegun 0 groups begins
+pub begun_reply : {script left : Option (List ℕ)} {groups : List GroupData} (begins : List JobData) → ReadGroups script left groups → AreBegun 0 groups begins
     → All HasReplies begins
 begun_reply {script} {left} {groups} begins read begin = All-begun 0 groups begins (apart_of read) begin
 
 -- ---- what was answered and written
 
-module _ {groups : List Group} {number : ℕ} {jobs : List Job} (lines : List Line) (are : groups ≡ groups_of (numbered_in lines))
+module _ {groups : List GroupData} {number : ℕ} {jobs : List JobData} (lines : List Line) (are : groups ≡ groups_of (numbered_in lines))
     (had : HasAnswered number groups jobs) where
   lines_are : lines_in had.answered ≡ grouped (numbered_in lines)
-  lines_are = had.lines ∙ ap (λ (gs : List Group). flat_map (λ group. group.lines) gs) are
+  lines_are = had.lines ∙ ap (λ (gs : List GroupData). flat_map (λ group. group.lines) gs) are
 
   asked_are : asked_of had.exchanges ≡ all_asked (grouped (numbered_in lines))
   asked_are = ap asked_of (sym had.these) ∙ asked_lines had.answered ∙ ap all_asked lines_are
@@ -105,7 +105,7 @@ module _ {groups : List Group} {number : ℕ} {jobs : List Job} (lines : List Li
       found_grouped lines had.exchanges had.answered found had.these lines_are
       (is ∙ had.found counted ∙ ap (λ (f : Findings). with_findings f (found_in (replies_in had.answered))) count)
 
-module _ {script left : Option (List ℕ)} {groups : List Group} (begins jobs : List Job) (begin : AreBegun 0 groups begins) (answered : AllAnswered begins jobs) where
+module _ {script left : Option (List ℕ)} {groups : List GroupData} (begins jobs : List JobData) (begin : AreBegun 0 groups begins) (answered : AllAnswered begins jobs) where
   has : ReadGroups script left groups → HasAnswered 0 groups jobs
   has read = HasAnswered-from 0 groups begins jobs (apart_of read) begin answered
 
@@ -175,13 +175,13 @@ module _ {script left : Option (List ℕ)} {groups : List Group} (begins jobs : 
 
 -- ---- a list of jobs that was answered in place
 
-pub answered_length : (olds news : List Job) → AllAnswered olds news → length news ≡ length olds
+pub answered_length : (olds news : List JobData) → AllAnswered olds news → length news ≡ length olds
 answered_length [] [] answered = refl
 answered_length [] (new ∷ news) answered = absurd answered
 answered_length (old ∷ olds) [] answered = absurd answered
 answered_length (old ∷ olds) (new ∷ news) answered = ap suc (answered_length olds news answered.1)
 
-pub answered_back : (count : ℕ) (items olds news : List Job) → length olds ≡ count → AllAnswered olds news
+pub answered_back : (count : ℕ) (items olds news : List JobData) → length olds ≡ count → AllAnswered olds news
     → take count (news ++ drop (length news) items) ≡ news
 answered_back count items olds news is answered =
     ap (λ (n : ℕ). take n (news ++ drop (length news) items)) (sym (answered_length olds news answered ∙ is))

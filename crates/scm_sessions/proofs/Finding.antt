@@ -10,7 +10,7 @@ use Rattle.scm_book.specs.Calls.{ReplyData}
 use Rattle.scm_sessions.specs.declared.findings.Findings.{Findings}
 use Rattle.scm_sessions.specs.declared.findings.RefusedLine.{RefusedLine}
 use Rattle.scm_sessions.specs.Lines.{Line}
-use Rattle.scm_sessions.specs.Asking.{Asked, asked_by}
+use Rattle.scm_sessions.specs.Asking.{AskedData, asked_by}
 use Rattle.scm_sessions.specs.Exchanges.{Exchange, has_reply, asked_in, asked_of}
 use Rattle.scm_sessions.specs.Findings.{replies_of, numbers_from, refusal_of_reply, refused_line, first_refused, answers_inconsistent, answers_undecided, findings_of, with_answer}
 
@@ -46,7 +46,7 @@ abbrev first_where : Bool → ℕ → List Line → List Exchange → Option Ref
 first_where has n lines exchanges =
     first_refused (zip (if has then n ∷ numbers_from (n + 1) lines else numbers_from (n + 1) lines) (replies_of exchanges))
 
-abbrev asked_where : Bool → Asked → List Asked → List Asked
+abbrev asked_where : Bool → AskedData → List AskedData → List AskedData
 asked_where has asked others = if has then asked ∷ others else others
 
 -- exchanges of these lines go on by a line
@@ -54,14 +54,14 @@ abbrev Appends : ℕ → List Line → Line → List Exchange → Type 0
 Appends n lines line more = (exchanges : List Exchange) → asked_of exchanges ≡ asked_in lines
     → first_from n (lines ++ line ∷ []) (exchanges ++ more) ≡ option_or (first_from n lines exchanges) (first_from (n + length lines) (line ∷ []) more)
 
-append_where : (has : Bool) (n : ℕ) (asked : Asked) (lines : List Line) (line : Line) (more : List Exchange) (exchanges : List Exchange)
+append_where : (has : Bool) (n : ℕ) (asked : AskedData) (lines : List Line) (line : Line) (more : List Exchange) (exchanges : List Exchange)
     → asked_of exchanges ≡ asked_where has asked (asked_in lines) → Appends (n + 1) lines line more
     → first_where has n (lines ++ line ∷ []) (exchanges ++ more)
     ≡ option_or (first_where has n lines exchanges) (first_from (n + 1 + length lines) (line ∷ []) more)
 append_where false n asked lines line more exchanges same ih = ih exchanges same
 append_where true n asked lines line more [] same ih = absurd (cons≢nil asked (asked_in lines) (sym same))
 append_where true n asked lines line more (e ∷ exchanges) same ih =
-    let tail : asked_of exchanges ≡ asked_in lines = ap (λ (xs : List Asked). drop 1 xs) same in
+    let tail : asked_of exchanges ≡ asked_in lines = ap (λ (xs : List AskedData). drop 1 xs) same in
     ap (option_or (refused_line n e.reply)) (ih exchanges tail)
     ∙ option_or_assoc (refused_line n e.reply) (first_from (n + 1) lines exchanges) (first_from (n + 1 + length lines) (line ∷ []) more)
 
@@ -119,7 +119,7 @@ found_where true lines exchanges line (e ∷ []) has same alone =
     (any-append answers_inconsistent exchanges (e ∷ []) ∙ or_last (list_any answers_inconsistent (replies_of exchanges)) (answers_inconsistent e.reply))
     (any-append answers_undecided exchanges (e ∷ []) ∙ or_last (list_any answers_undecided (replies_of exchanges)) (answers_undecided e.reply))
 found_where true lines exchanges line (e ∷ other ∷ more) has same alone =
-    absurd (cons≢nil other.asked (asked_of more) (ap (λ (xs : List Asked). drop 1 xs) alone))
+    absurd (cons≢nil other.asked (asked_of more) (ap (λ (xs : List AskedData). drop 1 xs) alone))
 
 -- one more line, with its exchange where it has one
 pub found_more : (lines : List Line) (exchanges : List Exchange) (line : Line) (more : List Exchange)

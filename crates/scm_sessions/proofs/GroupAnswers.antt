@@ -9,7 +9,7 @@ use Rattle.std.proofs.lemmas.Bool.{or_parts}
 use Rattle.scm_cells.specs.Names.{name_eq}
 use Rattle.scm_book.specs.Calls.{CallData, ReplyData}
 use Rattle.scm_shared.specs.Passes.{Known, newcomer}
-use Rattle.scm_sessions.specs.Asking.{Asked, nothing, bad, good, name_in}
+use Rattle.scm_sessions.specs.Asking.{AskedData, nothing, bad, good, name_in}
 use Rattle.scm_sessions.specs.Replies.{reply_line}
 use Rattle.scm_sessions.specs.declared.findings.Findings.{Findings}
 use Rattle.scm_sessions.specs.Exchanges.{Exchange, asked_of, replies_text}
@@ -18,8 +18,8 @@ use Rattle.scm_sessions.specs.Findings.{replies_of, found_in, with_findings}
 use Rattle.scm_sessions.specs.SharedRuns.{FitsAsked, AllFit, became_entry, entry_in, entries_of}
 use Rattle.scm_sessions.specs.Callers.{callers, AreNumberedFrom, made_by}
 use Rattle.scm_sessions.specs.Gathered.{made_in, pass_number, entry_for}
-use Rattle.scm_sessions.specs.Groups.{Group, has_name}
-use Rattle.scm_sessions.specs.Jobs.{Job, begun, is_call, AreBegun, entries_for, lines_in, exchanges_in, replies_in, AnsweredWhole, AllAnswered, job_text, jobs_text, names_in, passes_in, entered_names, entered_passes, with_jobs}
+use Rattle.scm_sessions.specs.Groups.{GroupData, has_name}
+use Rattle.scm_sessions.specs.Jobs.{JobData, begun, is_call, AreBegun, entries_for, lines_in, exchanges_in, replies_in, AnsweredWhole, AllAnswered, job_text, jobs_text, names_in, passes_in, entered_names, entered_passes, with_jobs}
 use Rattle.scm_sessions.proofs.Grouping.{is_in}
 use Rattle.scm_sessions.proofs.Making.{same_name, name_eq-refl, made_first, made_next}
 use Rattle.scm_sessions.proofs.GroupNames.{AreOf, AreApart, same_option}
@@ -31,14 +31,14 @@ use Rattle.scm_sessions.proofs.Replying.{list_any-map}
 some_name : (one other : List ℕ) → Some one ≡ Some other → one ≡ other
 some_name one other is = cc
 
-own_entry : (name n : List ℕ) (a : Asked) (reply : ReplyData) → name_eq name n ≡ true → name_in a ≡ Some n → entry_in name a reply ≡ entry_for a reply
+own_entry : (name n : List ℕ) (a : AskedData) (reply : ReplyData) → name_eq name n ≡ true → name_in a ≡ Some n → entry_in name a reply ≡ entry_for a reply
 own_entry name n nothing reply found named = refl
 own_entry name n (bad other) reply found named = refl
 own_entry name n (good caller call) reply found named =
     let one : List (CallData × ReplyData) = (call, reply) ∷ [] in
     ap (λ b. if b && became_entry reply then one else []) (ap (name_eq name) (some_name caller n named) ∙ found)
 
-other_entry : (name : List ℕ) (of : Option (List ℕ)) (a : Asked) (reply : ReplyData) → option_eq name_eq (Some name) of ≡ false → name_in a ≡ of
+other_entry : (name : List ℕ) (of : Option (List ℕ)) (a : AskedData) (reply : ReplyData) → option_eq name_eq (Some name) of ≡ false → name_in a ≡ of
     → entry_in name a reply ≡ []
 other_entry name of nothing reply other named = refl
 other_entry name of (bad n) reply other named = refl
@@ -66,7 +66,7 @@ own_lines name (e ∷ exchanges) are =
     ap₂ ◌++◌ (ap (λ (n : Option (List ℕ)). reply_line n e.reply) (sym are.1)) (own_lines name exchanges are.2)
 
 -- a call has a name
-call_named : (name : Option (List ℕ)) (asked : List Asked) → AreOf name asked → list_any is_call asked ≡ true → (n : List ℕ) × (name ≡ Some n)
+call_named : (name : Option (List ℕ)) (asked : List AskedData) → AreOf name asked → list_any is_call asked ≡ true → (n : List ℕ) × (name ≡ Some n)
 call_named name [] are calls = absurd (cc)
 call_named name (nothing ∷ asked) are calls = call_named name asked are.2 calls
 call_named name (bad other ∷ asked) are calls = call_named name asked are.2 calls
@@ -93,7 +93,7 @@ no_passes (Some name) = refl
 -- ---- a group
 
 -- the lines of a group were answered, by the session of this pass
-record Has (g : Group) (pass : Option Known) (job : Job) : Type 0 where
+record Has (g : GroupData) (pass : Option Known) (job : JobData) : Type 0 where
   pub answered : List (ℕ × Exchange)
   pub exchanges : List Exchange
   pub these : exchanges_in answered ≡ exchanges
@@ -107,17 +107,17 @@ record Has (g : Group) (pass : Option Known) (job : Job) : Type 0 where
   pub made : made_in job.pass ≡ made_in pass ++ entries_for exchanges
   pub number : pass_number job.pass ≡ pass_number pass
 
-Has-from : (g : Group) (pass : Option Known) (old new : Job) → old ≡ begun g pass → AreOf g.name (all_asked g.lines) → AnsweredWhole old new → Has g pass new
+Has-from : (g : GroupData) (pass : Option Known) (old new : JobData) → old ≡ begun g pass → AreOf g.name (all_asked g.lines) → AnsweredWhole old new → Has g pass new
 Has-from g pass old new is are whole =
     let had = whole.answered in
     let exchanges : List Exchange = exchanges_in had.answered in
     let lines : lines_in had.answered ≡ g.lines =
     sym (append-nil (lines_in had.answered)) ∙ ap (λ (rest : List Numbered). lines_in had.answered ++ rest) (sym whole.ended) ∙ sym had.lines
-    ∙ ap (λ (j : Job). j.lines) is in
+    ∙ ap (λ (j : JobData). j.lines) is in
     let asked : asked_of exchanges ≡ all_asked g.lines = asked_lines had.answered ∙ ap all_asked lines in
     let of : AreOf g.name (asked_of exchanges) = subst (AreOf g.name) (sym asked) are in
-    let name : new.name ≡ g.name = had.name ∙ ap (λ (j : Job). j.name) is in
-    let replies : new.replies ≡ replies_of exchanges = had.replies ∙ ap (λ (j : Job). j.replies ++ replies_of exchanges) is in
+    let name : new.name ≡ g.name = had.name ∙ ap (λ (j : JobData). j.name) is in
+    let replies : new.replies ≡ replies_of exchanges = had.replies ∙ ap (λ (j : JobData). j.replies ++ replies_of exchanges) is in
     record {
       answered = had.answered;
       exchanges = exchanges;
@@ -128,16 +128,16 @@ Has-from g pass old new is are whole =
       name = name;
       text = ap₂ (λ (n : Option (List ℕ)) (rs : List ReplyData). flat_map (λ reply. reply_line n reply) rs) name replies
           ∙ own_lines g.name exchanges of;
-      found = λ f. ap (with_findings f) (had.found ∙ ap (λ (j : Job). with_findings j.found (found_in (replies_in had.answered))) is);
+      found = λ f. ap (with_findings f) (had.found ∙ ap (λ (j : JobData). with_findings j.found (found_in (replies_in had.answered))) is);
       fit = had.fit;
-      made = had.made ∙ ap (λ (j : Job). made_in j.pass ++ entries_for exchanges) is;
-      number = had.number ∙ ap (λ (j : Job). pass_number j.pass) is;
+      made = had.made ∙ ap (λ (j : JobData). made_in j.pass ++ entries_for exchanges) is;
+      number = had.number ∙ ap (λ (j : JobData). pass_number j.pass) is;
     }
 
 -- ---- all groups
 
 -- the lines of these groups were answered, by the sessions of passes from this number on
-pub record HasAnswered (number : ℕ) (groups : List Group) (jobs : List Job) : Type 0 where
+pub record HasAnswered (number : ℕ) (groups : List GroupData) (jobs : List JobData) : Type 0 where
   pub answered : List (ℕ × Exchange)
   pub exchanges : List Exchange
   pub these : exchanges_in answered ≡ exchanges
@@ -155,7 +155,7 @@ entries_of-append : (name : List ℕ) (exchanges more : List Exchange) → entri
 entries_of-append name exchanges more = flat_map-append (λ (e : Exchange). entry_in name e.asked e.reply) exchanges more
 
 -- what is said of the exchanges of a group and of those of the others
-module _ (g : Group) (pass : Option Known) (job : Job) (has : Has g pass job) (number : ℕ) (groups : List Group) (jobs : List Job)
+module _ (g : GroupData) (pass : Option Known) (job : JobData) (has : Has g pass job) (number : ℕ) (groups : List GroupData) (jobs : List JobData)
     (others : HasAnswered number groups jobs) (apart : is_in groups g.name ≡ false) where
   abbrev all : List Exchange
   all = has.exchanges ++ others.exchanges
@@ -250,7 +250,7 @@ module _ (g : Group) (pass : Option Known) (job : Job) (has : Has g pass job) (n
           ∙ sym (made_next n (entered_names jobs) known (entered_passes jobs) name found)
 
 -- the group entered with the pass before those of the others
-with_pass : (g : Group) (job : Job) (number : ℕ) (has : Has g (Some (newcomer number)) job) (groups : List Group) (jobs : List Job)
+with_pass : (g : GroupData) (job : JobData) (number : ℕ) (has : Has g (Some (newcomer number)) job) (groups : List GroupData) (jobs : List JobData)
     (others : HasAnswered (number + 1) groups jobs) (apart : is_in groups g.name ≡ false) → list_any (λ line. is_call line.asked) g.lines ≡ true
     → HasAnswered number (g ∷ groups) (job ∷ jobs)
 with_pass g job number has groups jobs others apart calls =
@@ -279,7 +279,7 @@ with_pass g job number has groups jobs others apart calls =
       none = none_all g (Some (newcomer number)) job has (number + 1) groups jobs others apart;
     }
 
-pub HasAnswered-from : (number : ℕ) (groups : List Group) (begins jobs : List Job) → AreApart groups → AreBegun number groups begins
+pub HasAnswered-from : (number : ℕ) (groups : List GroupData) (begins jobs : List JobData) → AreApart groups → AreBegun number groups begins
     → AllAnswered begins jobs → HasAnswered number groups jobs
 HasAnswered-from number [] [] [] apart begin answered = record {
   answered = [];

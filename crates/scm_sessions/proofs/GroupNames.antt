@@ -6,10 +6,10 @@ use Rattle.std.proofs.lemmas.Bool.{both_ways, or_parts}
 use Rattle.std.proofs.lemmas.List.{map-append}
 use Rattle.scm_cells.specs.Names.{name_eq}
 use Rattle.scm_sessions.specs.Lines.{Line}
-use Rattle.scm_sessions.specs.Asking.{Asked, name_in}
+use Rattle.scm_sessions.specs.Asking.{AskedData, name_in}
 use Rattle.scm_sessions.specs.Exchanges.{has_reply}
 use Rattle.scm_sessions.specs.Numbered.{Numbered, numbered_from, replied, numbered_in, all_asked}
-use Rattle.scm_sessions.specs.Groups.{Group, has_name, with_numbered, groups_of}
+use Rattle.scm_sessions.specs.Groups.{GroupData, has_name, with_numbered, groups_of}
 use Rattle.scm_sessions.proofs.Grouping.{is_in, with_numbered-first, with_numbered-next}
 use Rattle.scm_sessions.proofs.Making.{same_name, name_eq-refl}
 
@@ -19,12 +19,12 @@ HaveReply [] = ⊤
 HaveReply (l ∷ lines) = (has_reply l.asked ≡ true) × HaveReply lines
 
 -- these lines have a reply, each under this name
-abbrev pub AreOf : Option (List ℕ) → List Asked → Type 0
+abbrev pub AreOf : Option (List ℕ) → List AskedData → Type 0
 AreOf name [] = ⊤
 AreOf name (a ∷ asked) = (has_reply a ≡ true) × (name_in a ≡ name) × AreOf name asked
 
 -- the lines of each of these groups have its name, and no other one has it
-abbrev pub AreApart : List Group → Type 0
+abbrev pub AreApart : List GroupData → Type 0
 AreApart [] = ⊤
 AreApart (g ∷ groups) = AreOf g.name (all_asked g.lines) × (is_in groups g.name ≡ false) × AreApart groups
 
@@ -50,13 +50,13 @@ other_option one other is = at (option_eq name_eq other one) refl
 
 -- ---- one line more
 
-AreOf-more : (name : Option (List ℕ)) (asked : List Asked) (a : Asked) → AreOf name asked → has_reply a ≡ true → name_in a ≡ name
+AreOf-more : (name : Option (List ℕ)) (asked : List AskedData) (a : AskedData) → AreOf name asked → has_reply a ≡ true → name_in a ≡ name
     → AreOf name (asked ++ a ∷ [])
 AreOf-more name [] a had replied named = (replied, named, tt)
 AreOf-more name (b ∷ asked) a had replied named = (had.0, had.1, AreOf-more name asked a had.2 replied named)
 
 -- another name is as new as it was
-still_new : (groups : List Group) (l : Numbered) (name : Option (List ℕ)) → is_in groups name ≡ false → option_eq name_eq name (name_in l.asked) ≡ false
+still_new : (groups : List GroupData) (l : Numbered) (name : Option (List ℕ)) → is_in groups name ≡ false → option_eq name_eq name (name_in l.asked) ≡ false
     → is_in (with_numbered groups l) name ≡ false
 still_new [] l name none other = rw other refl
 still_new (g ∷ groups) l name none other =
@@ -65,10 +65,10 @@ still_new (g ∷ groups) l name none other =
   where
     at : (b : Bool) → has_name (name_in l.asked) g ≡ b → has_name name g ≡ false → is_in (with_numbered groups l) name ≡ false
         → is_in (with_numbered (g ∷ groups) l) name ≡ false
-    at true same first others = ap (λ (gs : List Group). is_in gs name) (with_numbered-first g groups l same) ∙ none
-    at false differs first others = ap (λ (gs : List Group). is_in gs name) (with_numbered-next g groups l differs) ∙ rw first others
+    at true same first others = ap (λ (gs : List GroupData). is_in gs name) (with_numbered-first g groups l same) ∙ none
+    at false differs first others = ap (λ (gs : List GroupData). is_in gs name) (with_numbered-next g groups l differs) ∙ rw first others
 
-AreApart-more : (groups : List Group) (l : Numbered) → AreApart groups → has_reply l.asked ≡ true → AreApart (with_numbered groups l)
+AreApart-more : (groups : List GroupData) (l : Numbered) → AreApart groups → has_reply l.asked ≡ true → AreApart (with_numbered groups l)
 AreApart-more [] l apart replied = ((replied, refl, tt), refl, tt)
 AreApart-more (g ∷ groups) l apart replied = at (has_name (name_in l.asked) g) refl (AreApart-more groups l apart.2 replied)
   where
@@ -84,7 +84,7 @@ AreApart-more (g ∷ groups) l apart replied = at (has_name (name_in l.asked) g)
 
 -- ---- all lines
 
-AreApart-all : (groups : List Group) (lines : List Numbered) → AreApart groups → HaveReply lines → AreApart (fold with_numbered groups lines)
+AreApart-all : (groups : List GroupData) (lines : List Numbered) → AreApart groups → HaveReply lines → AreApart (fold with_numbered groups lines)
 AreApart-all groups [] apart replied = apart
 AreApart-all groups (l ∷ lines) apart replied = AreApart-all (with_numbered groups l) lines (AreApart-more groups l apart replied.0) replied.1
 

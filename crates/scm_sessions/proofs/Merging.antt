@@ -13,7 +13,7 @@ use Rattle.scm_sessions.specs.Exchanges.{Exchange, asked_of}
 use Rattle.scm_sessions.specs.Numbered.{Numbered, numbered_in, all_asked, all_numbers}
 use Rattle.scm_sessions.specs.Findings.{replies_of, refused_line, answers_inconsistent, answers_undecided, earlier, earliest_refused, unanswered, found_in, with_findings}
 use Rattle.scm_sessions.specs.Groups.{grouped}
-use Rattle.scm_sessions.specs.Jobs.{Job, with_jobs, lines_in, exchanges_in, replies_in}
+use Rattle.scm_sessions.specs.Jobs.{JobData, with_jobs, lines_in, exchanges_in, replies_in}
 use Rattle.scm_sessions.specs.EachRuns.{group_findings_of}
 use Rattle.scm_sessions.proofs.Finding.{same_findings, or_none}
 
@@ -85,11 +85,11 @@ with_both found xs ys =
     (sym (or-assoc found.is_undecided _ _) ∙ ap (λ b. found.is_undecided || b) (any-append answers_undecided xs ys))
 
 -- the findings of one more job
-pub one_job_more : (jobs : List Job) (i : ℕ) (d job : Job) (start before after : Findings) → before ≡ with_jobs start (take i jobs)
+pub one_job_more : (jobs : List JobData) (i : ℕ) (d job : JobData) (start before after : Findings) → before ≡ with_jobs start (take i jobs)
     → after ≡ with_findings before job.found → i < length jobs → job ≡ get_or jobs i d → after ≡ with_jobs start (take (i + 1) jobs)
 one_job_more jobs i d job start before after had more within same =
-    more ∙ ap₂ (λ (f : Findings) (j : Job). with_findings f j.found) had same
-    ∙ sym (fold_more (λ (f : Findings) (j : Job). with_findings f j.found) start jobs i d within)
+    more ∙ ap₂ (λ (f : Findings) (j : JobData). with_findings f j.found) had same
+    ∙ sym (fold_more (λ (f : Findings) (j : JobData). with_findings f j.found) start jobs i d within)
 
 -- ---- the replies to numbered lines
 

@@ -5,7 +5,7 @@ use Rattle.std.specs.List.{list_any, position_or_len}
 use Rattle.scm_cells.specs.Names.{name_eq}
 use Rattle.scm_book.specs.Calls.{CallData, ReplyData, EntryData}
 use Rattle.scm_book.specs.Journal.{BookState, count_of, makes_entry, IsCall}
-use Rattle.scm_sessions.specs.Asking.{Asked, nothing, bad, good}
+use Rattle.scm_sessions.specs.Asking.{AskedData, nothing, bad, good}
 use Rattle.scm_sessions.specs.Exchanges.{Exchange, Answers, RunsWhole}
 use Rattle.scm_sessions.specs.declared.findings.Findings.{Findings}
 use Rattle.scm_sessions.specs.Findings.{FindsWhole}
@@ -85,7 +85,7 @@ AnswersCall-named : (old : ScriptState) (name : List ℕ) (call : CallData) (rep
     → AnswersCall old name call reply new → IsNamed old → IsNamed new
 AnswersCall-named old name call reply new answers named = turned_or_entered _ old name call reply new _ answers named
 
-Answers-named : (old : ScriptState) (asked : Asked) (reply : ReplyData) (new : ScriptState) → Answers AnswersCall old asked reply new → IsNamed old → IsNamed new
+Answers-named : (old : ScriptState) (asked : AskedData) (reply : ReplyData) (new : ScriptState) → Answers AnswersCall old asked reply new → IsNamed old → IsNamed new
 Answers-named old nothing reply new answers named = absurd answers
 Answers-named old (bad name) reply new answers named = subst IsNamed (sym answers.1) named
 Answers-named old (good name call) reply new (inl answers) named = AnswersCall-named old name call reply new answers named

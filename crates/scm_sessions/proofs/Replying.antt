@@ -16,14 +16,14 @@ use Rattle.scm_sessions.specs.Numbered.{Numbered, numbered, line_data}
 use Rattle.scm_sessions.specs.Findings.{replies_of, unanswered, found_in, with_findings}
 use Rattle.scm_sessions.specs.SharedRuns.{FitsAsked, AllFit}
 use Rattle.scm_sessions.specs.Gathered.{made_in, entry_for, AnswersIn}
-use Rattle.scm_sessions.specs.Groups.{Group, group}
+use Rattle.scm_sessions.specs.Groups.{GroupData, group}
 use Rattle.scm_sessions.proofs.Merging.{with_none, with_both}
-use Rattle.scm_sessions.specs.Jobs.{Job, job, begun, is_call, AreBegun, HasEntered, entries_for, lines_in, exchanges_in, replies_in, AnsweredLines, AnsweredWhole, AllAnswered}
+use Rattle.scm_sessions.specs.Jobs.{JobData, job, begun, is_call, AreBegun, HasEntered, entries_for, lines_in, exchanges_in, replies_in, AnsweredLines, AnsweredWhole, AllAnswered}
 
 -- ---- one line more
 
 -- no line was answered yet
-pub AnsweredLines-none : (of : Job) → AnsweredLines of of
+pub AnsweredLines-none : (of : JobData) → AnsweredLines of of
 AnsweredLines-none of = record {
   answered = [];
   name = refl;
@@ -36,7 +36,7 @@ AnsweredLines-none of = record {
 }
 
 -- more lines were answered
-pub AnsweredLines-more : {a b c : Job} → AnsweredLines a b → AnsweredLines b c → AnsweredLines a c
+pub AnsweredLines-more : {a b c : JobData} → AnsweredLines a b → AnsweredLines b c → AnsweredLines a c
 AnsweredLines-more {a} {b} {c} one other =
     let es : List Exchange = exchanges_in one.answered in
     let more : List Exchange = exchanges_in other.answered in
@@ -66,14 +66,14 @@ AnsweredLines-more {a} {b} {c} one other =
 
 -- a line leaves the queue and its reply is put last
 pub answered_next : (name : Option (List ℕ)) (lines later : List NumberedLine) (line : NumberedLine) (pass after : Option Known)
-    (replies now : List Reply) (reply : Reply) (found more : Findings) (old : Job)
+    (replies now : List Reply) (reply : Reply) (found more : Findings) (old : JobData)
     → job name (map line_data lines) pass (map reply_data replies) found ≡ old
     → lines ≡ line ∷ later → now ≡ replies ++ reply ∷ [] → AnswersIn pass (asked_data line.asked) (reply_data reply) after
     → more ≡ with_findings found (found_in ((line.number, reply_data reply) ∷ []))
     → AnsweredLines old (job name (map line_data later) after (map reply_data now) more) × (length (map line_data later) < length old.lines)
 answered_next name lines later line pass after replies now reply found more old is front grown answers finds =
-    let left : Job = job name (map line_data later) after (map reply_data now) more in
-    subst (λ (o : Job). AnsweredLines o left × (length (map line_data later) < length o.lines)) is (answered, fewer) where
+    let left : JobData = job name (map line_data later) after (map reply_data now) more in
+    subst (λ (o : JobData). AnsweredLines o left × (length (map line_data later) < length o.lines)) is (answered, fewer) where
       answered : AnsweredLines (job name (map line_data lines) pass (map reply_data replies) found) (job name (map line_data later) after (map reply_data now) more)
       answered = record {
         answered = (line.number, exchange (asked_data line.asked) (reply_data reply)) ∷ [];
@@ -93,14 +93,14 @@ answered_next name lines later line pass after replies now reply found more old 
 
 -- the line that leaves the queue has a reply, where all of them do
 pub first_replied : (name : Option (List ℕ)) (lines later : List NumberedLine) (line : NumberedLine) (pass : Option Known) (replies : List ReplyData)
-    (found : Findings) (old : Job) → job name (map line_data lines) pass replies found ≡ old → lines ≡ line ∷ later
+    (found : Findings) (old : JobData) → job name (map line_data lines) pass replies found ≡ old → lines ≡ line ∷ later
     → All (λ line. has_reply line.asked ≡ true) old.lines → has_reply (asked_data line.asked) ≡ true
 first_replied name lines later line pass replies found old is front all =
-    let here : old.lines ≡ line_data line ∷ map line_data later = sym (ap (λ (j : Job). j.lines) is) ∙ ap (map line_data) front in
+    let here : old.lines ≡ line_data line ∷ map line_data later = sym (ap (λ (j : JobData). j.lines) is) ∙ ap (map line_data) front in
     subst (All (λ (l : Numbered). has_reply l.asked ≡ true)) here all 0 (line_data line) (omega arith)
 
 -- what is left of lines that have replies has replies
-pub replied_rest : {a b : Job} → AnsweredLines a b → All (λ line. has_reply line.asked ≡ true) a.lines → All (λ line. has_reply line.asked ≡ true) b.lines
+pub replied_rest : {a b : JobData} → AnsweredLines a b → All (λ line. has_reply line.asked ≡ true) a.lines → All (λ line. has_reply line.asked ≡ true) b.lines
 replied_rest {a} {b} answered all =
     rest (lines_in answered.answered) b.lines (subst (All (λ (l : Numbered). has_reply l.asked ≡ true)) answered.lines all) where
       rest : (front back : List Numbered) → All (λ line. has_reply line.asked ≡ true) (front ++ back) → All (λ line. has_reply line.asked ≡ true) back
@@ -110,12 +110,12 @@ replied_rest {a} {b} answered all =
 -- ---- all groups
 
 -- the group that a thread was given, and what it left of it
-pub one_answered : (old new given left : Job) → given ≡ old → left ≡ new → AnsweredWhole given left → AnsweredWhole old new
+pub one_answered : (old new given left : JobData) → given ≡ old → left ≡ new → AnsweredWhole given left → AnsweredWhole old new
 one_answered old new given left same is answered =
-    subst (λ (n : Job). AnsweredWhole old n) is (subst (λ (o : Job). AnsweredWhole o left) same answered)
+    subst (λ (n : JobData). AnsweredWhole old n) is (subst (λ (o : JobData). AnsweredWhole o left) same answered)
 
-pub all_answered : (olds news : List Job) → length news ≡ length olds
-    → ((i : ℕ) (d : Job) → i < length olds → AnsweredWhole (slice_index_or olds i d) (slice_index_or news i d)) → AllAnswered olds news
+pub all_answered : (olds news : List JobData) → length news ≡ length olds
+    → ((i : ℕ) (d : JobData) → i < length olds → AnsweredWhole (slice_index_or olds i d) (slice_index_or news i d)) → AllAnswered olds news
 all_answered [] [] same each = tt
 all_answered [] (new ∷ news) same each = absurd (omega arith)
 all_answered (old ∷ olds) [] same each = absurd (omega arith)
@@ -128,17 +128,17 @@ pub list_any-map : {X Y : Type 0} (test : Y → Bool) (change : X → Y) (xs : L
 list_any-map test change [] = refl
 list_any-map test change (x ∷ xs) = ap (λ b. test (change x) || b) (list_any-map test change xs)
 
-module _ (number : ℕ) (name : Option (List ℕ)) (lines : List NumberedLine) (replies : List Reply) (found : Findings) (of : Group)
+module _ (number : ℕ) (name : Option (List ℕ)) (lines : List NumberedLine) (replies : List Reply) (found : Findings) (of : GroupData)
     (is : group name (map line_data lines) ≡ of) (empty : replies ≡ []) (nothing : found ≡ unanswered 0) where
   -- this job, with this pass
-  abbrev now : Option Known → Job
+  abbrev now : Option Known → JobData
   now pass = job name (map line_data lines) pass (map reply_data replies) found
 
   -- it has no reply yet
   starts : (pass : Option Known) → now pass ≡ begun of pass
   starts pass =
       ap₂ (λ (rs : List Reply) (f : Findings). job name (map line_data lines) pass (map reply_data rs) f) empty nothing
-      ∙ ap (λ (g : Group). begun g pass) is
+      ∙ ap (λ (g : GroupData). begun g pass) is
 
   -- it has no pass
   pub begins_without : (pass : Option Known) → pass ≡ None → (now pass ≡ begun of None) ⊎ HasEntered number of (now pass)
@@ -150,7 +150,7 @@ module _ (number : ℕ) (name : Option (List ℕ)) (lines : List NumberedLine) (
   begins_with pass None calls found is_so same new = begins_without pass same
   begins_with pass (Some p) calls found is_so same new =
       inr (record {
-        calls = ap (λ (g : Group). list_any (λ (line : Numbered). is_call line.asked) g.lines) (sym is)
+        calls = ap (λ (g : GroupData). list_any (λ (line : Numbered). is_call line.asked) g.lines) (sym is)
             ∙ list_any-map (λ (line : Numbered). is_call line.asked) line_data lines ∙ sym found ∙ is_so;
         begins_so = ap now (same ∙ ap (λ (k : Known). Some k) new) ∙ starts (Some (newcomer number));
       })
@@ -160,29 +160,29 @@ abbrev pub number_past : Option Known → ℕ → ℕ
 number_past pass number = option_map_or (λ (p : Known). p.number + 1) pass number
 
 -- the number of the next pass after these jobs
-abbrev pub number_after : List Job → ℕ → ℕ
+abbrev pub number_after : List JobData → ℕ → ℕ
 number_after [] number = number
 number_after (first ∷ jobs) number = number_after jobs (number_past first.pass number)
 
-number_after-last : (jobs : List Job) (last : Job) (number : ℕ) → number_after (jobs ++ last ∷ []) number ≡ number_past last.pass (number_after jobs number)
+number_after-last : (jobs : List JobData) (last : JobData) (number : ℕ) → number_after (jobs ++ last ∷ []) number ≡ number_past last.pass (number_after jobs number)
 number_after-last [] last number = refl
 number_after-last (first ∷ jobs) last number = number_after-last jobs last (number_past first.pass number)
 
-AreBegun-last : (number : ℕ) (groups : List Group) (jobs : List Job) (group : Group) (last : Job) → AreBegun number groups jobs
+AreBegun-last : (number : ℕ) (groups : List GroupData) (jobs : List JobData) (group : GroupData) (last : JobData) → AreBegun number groups jobs
     → (last ≡ begun group None) ⊎ HasEntered (number_after jobs number) group last → AreBegun number (groups ++ group ∷ []) (jobs ++ last ∷ [])
 AreBegun-last number [] [] group last begin (inl is) = inl (is, tt)
 AreBegun-last number [] [] group last begin (inr enters) = inr (enters, tt)
 AreBegun-last number [] (first ∷ jobs) group last begin more = absurd begin
 AreBegun-last number (g ∷ groups) [] group last begin more = absurd begin
 AreBegun-last number (g ∷ groups) (first ∷ jobs) group last (inl begin) more =
-    let same : number_past first.pass number ≡ number = ap (λ (j : Job). number_past j.pass number) begin.0 in
+    let same : number_past first.pass number ≡ number = ap (λ (j : JobData). number_past j.pass number) begin.0 in
     inl (
       begin.0,
       AreBegun-last number groups jobs group last begin.1
           (subst (λ (n : ℕ). (last ≡ begun group None) ⊎ HasEntered (number_after jobs n) group last) same more),
     )
 AreBegun-last number (g ∷ groups) (first ∷ jobs) group last (inr begin) more =
-    let next : number_past first.pass number ≡ number + 1 = ap (λ (j : Job). number_past j.pass number) begin.0.begins_so in
+    let next : number_past first.pass number ≡ number + 1 = ap (λ (j : JobData). number_past j.pass number) begin.0.begins_so in
     inr (
       begin.0,
       AreBegun-last (number + 1) groups jobs group last begin.1
@@ -190,16 +190,16 @@ AreBegun-last number (g ∷ groups) (first ∷ jobs) group last (inr begin) more
     )
 
 -- these are the jobs of the groups so far, and the next pass has this number
-pub record HaveBegun (groups : List Group) (jobs : List Job) (number : ℕ) : Type 0 where
+pub record HaveBegun (groups : List GroupData) (jobs : List JobData) (number : ℕ) : Type 0 where
   pub begun_so : AreBegun 0 groups jobs
   pub number_is : number ≡ number_after jobs 0
 
 -- one more begins
-pub HaveBegun-more : {groups : List Group} {jobs : List Job} {number : ℕ} → HaveBegun groups jobs number → (group : Group) (last : Job) (now : List Job) (next : ℕ)
+pub HaveBegun-more : {groups : List GroupData} {jobs : List JobData} {number : ℕ} → HaveBegun groups jobs number → (group : GroupData) (last : JobData) (now : List JobData) (next : ℕ)
     → (last ≡ begun group None) ⊎ HasEntered number group last → next ≡ number_past last.pass number → now ≡ jobs ++ last ∷ []
     → HaveBegun (groups ++ group ∷ []) now next
 HaveBegun-more {groups} {jobs} {number} had group last now next more is grown = record {
   begun_so = subst (AreBegun 0 (groups ++ group ∷ [])) (sym grown) (AreBegun-last 0 groups jobs group last had.begun_so
       (subst (λ (n : ℕ). (last ≡ begun group None) ⊎ HasEntered n group last) had.number_is more));
-  number_is = is ∙ ap (number_past last.pass) had.number_is ∙ sym (number_after-last jobs last 0) ∙ ap (λ (js : List Job). number_after js 0) (sym grown);
+  number_is = is ∙ ap (number_past last.pass) had.number_is ∙ sym (number_after-last jobs last 0) ∙ ap (λ (js : List JobData). number_after js 0) (sym grown);
 }

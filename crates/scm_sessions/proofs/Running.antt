@@ -8,7 +8,7 @@ use Rattle.std.specs.Io.KnownBytes.{Consumes, Appends, Keeps, IsAtEnd, prepend_k
 use Rattle.scm_book.specs.Calls.{CallData, ReplyData}
 use Rattle.scm_sessions.specs.declared.reading.Cut.TheVariants.{Whole, Last}
 use Rattle.scm_sessions.specs.Lines.{Line, line_of, whole_lines_of, HasNoFeed}
-use Rattle.scm_sessions.specs.Asking.{Asked, asked_by, name_in}
+use Rattle.scm_sessions.specs.Asking.{AskedData, asked_by, name_in}
 use Rattle.scm_sessions.specs.Replies.{reply_line}
 use Rattle.scm_sessions.specs.Ports.{AppendsPart}
 use Rattle.scm_sessions.specs.Reading.{TakesLine}

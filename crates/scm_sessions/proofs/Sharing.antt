@@ -11,7 +11,7 @@ use Rattle.scm_book.specs.Calls.{CallData, ReplyData, refused, EntryData}
 use Rattle.scm_book.specs.Callers.{calls_by}
 use Rattle.scm_shared.specs.Passes.{Known}
 use Rattle.scm_shared.specs.Audits.{covers, AllMatchEntries, Agree}
-use Rattle.scm_sessions.specs.Asking.{Asked, nothing, bad, good}
+use Rattle.scm_sessions.specs.Asking.{AskedData, nothing, bad, good}
 use Rattle.scm_sessions.specs.Exchanges.{Exchange, Answers, LeadTo, RunsWholeLines, RunsPart}
 use Rattle.scm_sessions.specs.Script.{session_of}
 use Rattle.scm_sessions.specs.declared.ended.Ended.{Ended}
@@ -24,7 +24,7 @@ use Rattle.scm_sessions.proofs.Running.{FindsWhole-map, RunsWholeLines-map, Runs
 
 -- ---- exchange by exchange
 
-Answers-fit : (old : Callers) (asked : Asked) (reply : ReplyData) (new : Callers) → Answers MakesCall old asked reply new → FitsAsked asked reply
+Answers-fit : (old : Callers) (asked : AskedData) (reply : ReplyData) (new : Callers) → Answers MakesCall old asked reply new → FitsAsked asked reply
 Answers-fit old nothing reply new answers = absurd answers
 Answers-fit old (bad name) reply new answers = answers.0
 Answers-fit old (good name call) reply new (inl makes) = makes.reply_is
@@ -40,7 +40,7 @@ no_entry true call reply became =
     let P : Bool → Type 0 = λ b. [] ≡ (if b then one else []) in subst P (sym became) refl
 no_entry false call reply became = refl
 
-Answers-made : (old : Callers) (asked : Asked) (reply : ReplyData) (new : Callers) (name : List ℕ) → Answers MakesCall old asked reply new
+Answers-made : (old : Callers) (asked : AskedData) (reply : ReplyData) (new : Callers) (name : List ℕ) → Answers MakesCall old asked reply new
     → made_by new name ≡ made_by old name ++ entry_in name asked reply
 Answers-made old nothing reply new name answers = absurd answers
 Answers-made old (bad n) reply new name answers = ap (λ (c : Callers). made_by c name) answers.1 ∙ sym (append-nil (made_by old name))

@@ -9,7 +9,7 @@ use Rattle.scm_cells.specs.Initials.{initial_of_word}
 use Rattle.scm_lowering.specs.Accesses.{name_of_word, access_of_words}
 use Rattle.scm_book.specs.declared.call.Decl.{Decl}
 use Rattle.scm_book.specs.Calls.{CallData, call_data, opens, claims, releases, reports, sets_mark, goes_back, raises, asks, asks_why, asks_cycle, shows, lists, closes}
-use Rattle.scm_sessions.specs.declared.asking.Asked.{Asked as AskedLine}
+use Rattle.scm_sessions.specs.declared.asking.Asked.{Asked}
 use Rattle.scm_sessions.specs.declared.asking.Asked.TheVariants.{Nothing, Bad, Good}
 use Rattle.scm_sessions.specs.declared.commands.Command.{Command}
 use Rattle.scm_sessions.specs.declared.commands.Command.TheVariants.{OpenTrace, ClaimProcess, ReleaseProcess, Report, SetMark, GoBack, RaiseBudget, Ask, Why, Cycle, ShowOps, ListTraces, CloseTrace}
@@ -17,13 +17,13 @@ use Rattle.scm_sessions.specs.Lines.{Line, too_long, text}
 use Rattle.scm_sessions.specs.Words.{words_of}
 use Rattle.scm_sessions.specs.Commands.{command_of_word}
 
-pub data Asked : Type 0 where
+pub data AskedData : Type 0 where
   -- no reply
-  nothing : Asked
+  nothing : AskedData
   -- a bad line, under the name of its session where its first word is a name
-  bad : Option (List ℕ) → Asked
+  bad : Option (List ℕ) → AskedData
   -- a call of the session of this name
-  good : List ℕ → CallData → Asked
+  good : List ℕ → CallData → AskedData
 
 -- ---- open T procs budget DECL ..
 
@@ -150,7 +150,7 @@ abbrev pub call_of_words : List (List ℕ) → Option CallData
 call_of_words [] = None
 call_of_words (word ∷ words) = option_and_then (λ command. call_of command words) (command_of_word word)
 
-abbrev pub asked_by_words : List (List ℕ) → Asked
+abbrev pub asked_by_words : List (List ℕ) → AskedData
 asked_by_words [] = nothing
 asked_by_words (session ∷ words) =
     if is_name session then option_map_or (λ call. good session call) (call_of_words words) (bad (Some session))
@@ -161,18 +161,18 @@ abbrev pub is_comment : List ℕ → Bool
 is_comment [] = false
 is_comment (b ∷ bytes) = b == 35
 
-abbrev pub asked_by : Line → Asked
+abbrev pub asked_by : Line → AskedData
 asked_by too_long = bad None
 asked_by (text bytes) = if is_comment bytes then nothing else asked_by_words (words_of bytes)
 
 -- the name under which the reply stands, None for '?'
-abbrev pub name_in : Asked → Option (List ℕ)
+abbrev pub name_in : AskedData → Option (List ℕ)
 name_in nothing = None
 name_in (bad name) = name
 name_in (good name call) = Some name
 
 -- what a line was read as
-abbrev pub asked_data : AskedLine → Asked
+abbrev pub asked_data : Asked → AskedData
 asked_data Nothing = nothing
 asked_data (Bad name) = bad name
 asked_data (Good session call) = good session (call_data call)

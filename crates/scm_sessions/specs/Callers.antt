@@ -1,5 +1,5 @@
 -- The sessions of a run over a shared book: what the run's passes say that they made. This project's profile.
-use Rattle.std.specs.Prelude.{ℕ, ◌≡◌, ◌≢◌, ◌+◌, ⊤, List, [], ◌∷◌, ◌++◌, slice_get, Option}
+use Rattle.std.specs.Prelude.{ℕ, ◌≡◌, ◌≢◌, ◌+◌, ⊤, List, [], ◌∷◌, ◌++◌, length, slice_get, Option}
 use Rattle.std.specs.Option.{option_map_or}
 use Rattle.scm_sequences.specs.declared.refusal.Refusal.TheVariants.{BadLine}
 use Rattle.scm_book.specs.Calls.{CallData, ReplyData, refused}
@@ -35,6 +35,9 @@ pub record MakesCall (old : Callers) (name : List ℕ) (call : CallData) (reply 
   pub reply_is : reply ≢ refused BadLine
   pub made : (other : List ℕ) → made_by new other ≡ made_by old other ++ entry_in other (good name call) reply
 
--- the whole script was run, from no sessions to these names and passes, with these findings
+-- the whole script was run, from no sessions to these names and passes, a pass for each name and in the order of the names,
+-- with these findings
 pub record RunsCallers (script left written after : Option (List ℕ)) (names : List (List ℕ)) (passes : List Known) (found : Findings) : Type 0 where
   pub finds : FindsWhole script left written after (λ exchanges. LeadTo MakesCall (callers [] []) exchanges (callers names passes)) found
+  pub each : length passes ≡ length names
+  pub numbered : AreNumberedFrom 0 passes

@@ -1,31 +1,33 @@
 -- The exchanges of a run: what each line asked that has a reply, and the reply. This project's profile.
-use Rattle.std.specs.Prelude.{ℕ, ◌≡◌, ◌⊎◌, List, [], ◌∷◌, ◌++◌, map, filter, flat_map, Bool, true, false, Option}
+use Rattle.std.specs.Prelude.{ℕ, ◌≡◌, ◌≢◌, ◌⊎◌, ◌↔◌, List, [], ◌∷◌, ◌++◌, map, filter, flat_map, Bool, true, false, Option, Result, IfErr, IsErrOf}
 use Rattle.std.specs.Io.KnownBytes.{Consumes, Appends, IsAtEnd}
 use Rattle.scm_sequences.specs.declared.refusal.Refusal.TheVariants.{BadLine, NoMemory}
 use Rattle.scm_book.specs.Calls.{CallData, ReplyData, refused}
+use Rattle.scm_sessions.specs.declared.fault.RunFault.{RunFault}
+use Rattle.scm_sessions.specs.declared.fault.RunFault.TheVariants.{ReadFailed, WriteFailed, NoMemory as WithoutMemory}
 use Rattle.scm_sessions.specs.Lines.{Line, lines_of, whole_lines_of}
-use Rattle.scm_sessions.specs.Asking.{Asked, nothing, bad, good, asked_by, name_in}
+use Rattle.scm_sessions.specs.Asking.{AskedData, nothing, bad, good, asked_by, name_in}
 use Rattle.scm_sessions.specs.Replies.{reply_line}
 use Rattle.scm_sessions.specs.Ports.{AppendsPart}
 
 pub record Exchange : Type 0 where
   -- what a line asked
-  pub asked : Asked
+  pub asked : AskedData
   pub reply : ReplyData
 
-abbrev pub exchange : Asked → ReplyData → Exchange
+abbrev pub exchange : AskedData → ReplyData → Exchange
 exchange asked reply = record { asked = asked; reply = reply }
 
 -- whether a line that asks this has a reply
-abbrev pub has_reply : Asked → Bool
+abbrev pub has_reply : AskedData → Bool
 has_reply nothing = false
 has_reply asked = true
 
 -- what those of the lines ask that have a reply, in order
-abbrev pub asked_in : List Line → List Asked
+abbrev pub asked_in : List Line → List AskedData
 asked_in lines = filter has_reply (map asked_by lines)
 
-abbrev pub asked_of : List Exchange → List Asked
+abbrev pub asked_of : List Exchange → List AskedData
 asked_of exchanges = map (λ e. e.asked) exchanges
 
 -- the replies of these exchanges, each in its line
@@ -37,7 +39,7 @@ replies_text exchanges = flat_map (λ e. reply_line (name_in e.asked) e.reply) e
 
 -- what is asked leads from old to new with this reply: a bad line is refused for that, a call is answered; or memory was
 -- refused, and everything is as it was
-abbrev pub Answers : {S : Type 0} → (S → List ℕ → CallData → ReplyData → S → Type 0) → S → Asked → ReplyData → S → Type 0
+abbrev pub Answers : {S : Type 0} → (S → List ℕ → CallData → ReplyData → S → Type 0) → S → AskedData → ReplyData → S → Type 0
 Answers Calls old nothing reply new = ⊥
 Answers Calls old (bad name) reply new = ((reply ≡ refused BadLine) ⊎ (reply ≡ refused NoMemory)) × (new ≡ old)
 Answers Calls old (good name call) reply new =
@@ -82,3 +84,12 @@ pub record RunsPart (script left written after : Option (List ℕ)) (Run : List 
   pub asked : asked_of exchanges ≡ asked_in lines
   pub appended : AppendsPart written after (replies_text exchanges)
   pub run : Run exchanges
+
+-- how a run may fail that gives this: what it did until a read or a write failed, that it tells which one did, and that want
+-- of memory is no cause
+pub record MayFail {A : Type 0} (result : Result A RunFault) (script left written after : Option (List ℕ)) (has_reader_failed has_writer_failed : Bool) (Run : List Exchange → Type 0) : Type 0 where
+  pub read_failed : IsErrOf result ReadFailed → RunsWholeLines script left written after Run
+  pub write_failed : IsErrOf result WriteFailed → RunsPart script left written after Run
+  pub reader_failed : IsErrOf result ReadFailed ↔ (has_reader_failed ≡ true)
+  pub writer_failed : IsErrOf result WriteFailed ↔ (has_writer_failed ≡ true)
+  pub memory : IfErr result (λ fault. fault ≢ WithoutMemory)

@@ -3,16 +3,16 @@ use Rattle.std.specs.Prelude.{ℕ, ◌+◌, List, [], ◌∷◌, map, filter}
 use Rattle.scm_results.specs.Totals.{capped}
 use Rattle.scm_sessions.specs.declared.numbered.NumberedLine.{NumberedLine}
 use Rattle.scm_sessions.specs.Lines.{Line}
-use Rattle.scm_sessions.specs.Asking.{Asked, asked_by, asked_data}
+use Rattle.scm_sessions.specs.Asking.{AskedData, asked_by, asked_data}
 use Rattle.scm_sessions.specs.Exchanges.{has_reply}
 
 pub record Numbered : Type 0 where
   -- the number of a line in its script, from 1 on, or 2^64 - 1 where it is more
   pub number : ℕ
   -- what the line asks
-  pub asked : Asked
+  pub asked : AskedData
 
-abbrev pub numbered : ℕ → Asked → Numbered
+abbrev pub numbered : ℕ → AskedData → Numbered
 numbered number asked = record { number = number; asked = asked }
 
 -- what each of these lines asks, where the first one has this number
@@ -28,7 +28,7 @@ replied lines = filter (λ line. has_reply line.asked) lines
 abbrev pub numbered_in : List Line → List Numbered
 numbered_in lines = replied (numbered_from 1 lines)
 
-abbrev pub all_asked : List Numbered → List Asked
+abbrev pub all_asked : List Numbered → List AskedData
 all_asked lines = map (λ line. line.asked) lines
 
 abbrev pub all_numbers : List Numbered → List ℕ

@@ -7,12 +7,12 @@ use Rattle.scm_book.specs.Calls.{CallData, ReplyData, refused}
 use Rattle.scm_book.specs.Journal.{makes_entry}
 use Rattle.scm_book.specs.Callers.{calls_by}
 use Rattle.scm_sessions.specs.declared.ended.Ended.{Ended}
-use Rattle.scm_sessions.specs.Asking.{Asked, nothing, bad, good}
+use Rattle.scm_sessions.specs.Asking.{AskedData, nothing, bad, good}
 use Rattle.scm_sessions.specs.Exchanges.{Exchange}
 use Rattle.scm_sessions.specs.Script.{session_of}
 
 -- a bad line is answered that it is one, or that memory was refused; a good line isn't answered that it is a bad one
-abbrev pub FitsAsked : Asked → ReplyData → Type 0
+abbrev pub FitsAsked : AskedData → ReplyData → Type 0
 FitsAsked nothing reply = ⊥
 FitsAsked (bad name) reply = (reply ≡ refused BadLine) ⊎ (reply ≡ refused NoMemory)
 FitsAsked (good name call) reply = reply ≢ refused BadLine
@@ -28,7 +28,7 @@ became_entry (refused TooManySessions) = false
 became_entry reply = makes_entry reply
 
 -- the call of a line of this name, where it became an entry, with the reply written for it
-abbrev pub entry_in : List ℕ → Asked → ReplyData → List (CallData × ReplyData)
+abbrev pub entry_in : List ℕ → AskedData → ReplyData → List (CallData × ReplyData)
 entry_in name (good caller call) reply =
     if name_eq name caller && became_entry reply then (call, reply) ∷ [] else []
 entry_in name asked reply = []

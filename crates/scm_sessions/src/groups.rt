@@ -40,7 +40,7 @@ pub(crate) struct Groups {
 impl Model for Group {
     ghost use Rattle.std.specs.Prelude.{map};
     ghost use Rattle.scm_sessions.specs.Numbered.{line_data};
-    ghost use Rattle.scm_sessions.specs.Groups.{Group as GroupData, group};
+    ghost use Rattle.scm_sessions.specs.Groups.{GroupData, group};
 
     ghost Value = { GroupData };
 
@@ -49,7 +49,7 @@ impl Model for Group {
 
 impl Model for Groups {
     ghost use Rattle.std.specs.Prelude.{◌≡◌, List};
-    ghost use Rattle.scm_sessions.specs.Groups.{Group as GroupData, group_names};
+    ghost use Rattle.scm_sessions.specs.Groups.{GroupData, group_names};
 
     ghost Value = { List GroupData };
 

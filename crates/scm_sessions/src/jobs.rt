@@ -34,7 +34,7 @@ impl<B: BookNaming> Model for Job<B> {
     ghost use Rattle.std.specs.Prelude.{◌+◌, ◌≤◌, length, map, vec_capacity};
     ghost use Rattle.scm_book.specs.Calls.{reply_data};
     ghost use Rattle.scm_sessions.specs.Numbered.{line_data};
-    ghost use Rattle.scm_sessions.specs.Jobs.{Job as JobData, job};
+    ghost use Rattle.scm_sessions.specs.Jobs.{JobData, job};
 
     ghost Value = { JobData };
 

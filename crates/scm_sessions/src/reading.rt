@@ -91,7 +91,7 @@ impl LineReader {
             (IsAtEnd (left_of R.remaining self.new port.new))) }
         ensures none { OnErr result (unread_of self.new ≡ []) }
         ensures kept { Keeps (left_of R.remaining self.old port.old) (left_of R.remaining self.new port.new) }
-        ensures budget { most_bytes_left self.new port.new ≤ most_bytes_left self.old port.old }
+        ensures left { most_bytes_left self.new port.new ≤ most_bytes_left self.old port.old }
         ensures line { self.new.line ≡ self.old.line }
         ensures is_long { self.new.is_long ≡ self.old.is_long }
         ensures failed { MatchResult result (λ _. has_failed port.new ≡ has_failed port.old) (λ _. has_failed port.new ≡ true) }

@@ -1,13 +1,13 @@
 //! The run of a script with workers beside it.
-ghost use Rattle.std.specs.Prelude.{◌≡◌, ◌≢◌, ◌≤◌, ◌↔◌, [], length, true, false, vec_capacity, IfOk, IfErr, IsErrOf, IsTrue};
+ghost use Rattle.std.specs.Prelude.{◌≡◌, ◌≤◌, ◌↔◌, [], true, false, vec_capacity, IfOk, IsErrOf, IsTrue};
 ghost use Rattle.scm_sequences.specs.declared.limits.TheConstants.{MOST_SESSIONS};
 ghost use Rattle.scm_book.specs.Journal.{IsLegalBook};
 ghost use Rattle.scm_sessions.specs.Ports.{inner_of, has_failed};
 ghost use Rattle.scm_sessions.specs.Reading.{unread_of};
 ghost use Rattle.scm_sessions.specs.JournalText.{AreNamed};
-ghost use Rattle.scm_sessions.specs.Exchanges.{RunsWholeLines, RunsPart};
+ghost use Rattle.scm_sessions.specs.Exchanges.{RunsWholeLines, RunsPart, MayFail};
 ghost use Rattle.scm_sessions.specs.Findings.{FindsWhole};
-ghost use Rattle.scm_sessions.specs.Callers.{AreNumberedFrom, RunsCallers};
+ghost use Rattle.scm_sessions.specs.Callers.{RunsCallers};
 ghost use Rattle.scm_sessions.specs.SharedRuns.{AllFit, IsSharedRun};
 
 use crate::reading::LineReader;
@@ -17,9 +17,11 @@ use crate::{Ended, Findings, Port, RunFault};
 use scm_cells::Name;
 use scm_expand::{Gate, run_workers};
 use scm_results::Tally;
+use scm_sequences::NoMemory;
 use scm_shared::{BookNaming, BookToken, Pass, SharedBook};
 use std::alloc::Global;
 use std::io::{Read, Write};
+use std::mem;
 use std::sync::Wait;
 use std::thread::{Threads, join_mut};
 
@@ -41,17 +43,8 @@ fn run_and_stop<'a, B: BookNaming, T: Wait, R: Read, W: Write>(
     requires writes { has_failed writer.old ≡ false }
     ensures ok { IfOk result (λ ended. RunsCallers (R.remaining (inner_of reader.old)) (R.remaining (inner_of reader.new))
         (W.contents (inner_of writer.old)) (W.contents (inner_of writer.new)) names.new.items ended.0.items ended.1) }
-    ensures each { IfOk result (λ ended. length ended.0.items ≡ length names.new.items) }
-    ensures numbered { IfOk result (λ ended. AreNumberedFrom 0 ended.0.items) }
-    ensures read_failed { IsErrOf result RunFault.ReadFailed →
-        RunsWholeLines (R.remaining (inner_of reader.old)) (R.remaining (inner_of reader.new))
-        (W.contents (inner_of writer.old)) (W.contents (inner_of writer.new)) AllFit }
-    ensures write_failed { IsErrOf result RunFault.WriteFailed →
-        RunsPart (R.remaining (inner_of reader.old)) (R.remaining (inner_of reader.new))
-        (W.contents (inner_of writer.old)) (W.contents (inner_of writer.new)) AllFit }
-    ensures reader_failed { IsErrOf result RunFault.ReadFailed ↔ (has_failed reader.new ≡ true) }
-    ensures writer_failed { IsErrOf result RunFault.WriteFailed ↔ (has_failed writer.new ≡ true) }
-    ensures memory { IfErr result (λ fault. fault ≢ RunFault.NoMemory) }
+    ensures fails { MayFail result (R.remaining (inner_of reader.old)) (R.remaining (inner_of reader.new))
+        (W.contents (inner_of writer.old)) (W.contents (inner_of writer.new)) (has_failed reader.new) (has_failed writer.new) AllFit }
 {
     let mut sessions = SharedSessions::new(alloc, rt, book);
     let mut findings = Findings::new();
@@ -59,6 +52,14 @@ fn run_and_stop<'a, B: BookNaming, T: Wait, R: Read, W: Write>(
     book.stop_workers();
     ran?;
     Ok((sessions.into_parts(names), findings))
+}
+
+/// Takes what the workers counted, where they ran.
+fn take_tallies<B: BookNaming>(crew: Result<Vec<Tally<B>>, NoMemory>, tallies: &mut Vec<Tally<B>>) {
+    if let Ok(mut brought) = crew {
+        mem::swap(tallies, &mut brought);
+        drop(brought);
+    }
 }
 
 /// Runs the script over this book beside workers, which end with it and whose tallies go into `tallies`. Gives the passes of the
@@ -88,24 +89,13 @@ fn run_beside_workers<
     requires writes { has_failed writer.old ≡ false }
     ensures ok { IfOk result (λ ended. RunsCallers (R.remaining (inner_of reader.old)) (R.remaining (inner_of reader.new))
         (W.contents (inner_of writer.old)) (W.contents (inner_of writer.new)) names.new.items ended.0.items ended.1) }
-    ensures each { IfOk result (λ ended. length ended.0.items ≡ length names.new.items) }
-    ensures numbered { IfOk result (λ ended. AreNumberedFrom 0 ended.0.items) }
-    ensures read_failed { IsErrOf result RunFault.ReadFailed →
-        RunsWholeLines (R.remaining (inner_of reader.old)) (R.remaining (inner_of reader.new))
-        (W.contents (inner_of writer.old)) (W.contents (inner_of writer.new)) AllFit }
-    ensures write_failed { IsErrOf result RunFault.WriteFailed →
-        RunsPart (R.remaining (inner_of reader.old)) (R.remaining (inner_of reader.new))
-        (W.contents (inner_of writer.old)) (W.contents (inner_of writer.new)) AllFit }
-    ensures reader_failed { IsErrOf result RunFault.ReadFailed ↔ (has_failed reader.new ≡ true) }
-    ensures writer_failed { IsErrOf result RunFault.WriteFailed ↔ (has_failed writer.new ≡ true) }
-    ensures memory { IfErr result (λ fault. fault ≢ RunFault.NoMemory) }
+    ensures fails { MayFail result (R.remaining (inner_of reader.old)) (R.remaining (inner_of reader.new))
+        (W.contents (inner_of writer.old)) (W.contents (inner_of writer.new)) (has_failed reader.new) (has_failed writer.new) AllFit }
 {
     let mut work = || run_workers::<B, SharedBook<B>, G, T>(rt, alloc, book, gate, workers);
     let mut script = || run_and_stop(rt, alloc, book, names, lines, reader, writer);
     let (crew, ran) = join_mut(rt, &mut work, &mut script);
-    if let Ok(brought) = crew {
-        *tallies = brought;
-    }
+    take_tallies(crew, tallies);
     ran
 }
 

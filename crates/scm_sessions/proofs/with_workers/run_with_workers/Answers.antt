@@ -5,11 +5,9 @@ use Rattle.scm_sessions.proofs.with_workers.run_with_workers.Goals as goal
 pub returns-clause-ok : goal.returns-clause-ok
 returns-clause-ok g c =
     let ran = rw c.in_ok-passes.was at c.run_beside_workers-ran.ensures.ok in
-    let numbered = rw c.in_ok-passes.was at c.run_beside_workers-ran.ensures.numbered in
-    FindsWhole-map (λ exchanges lead. shared_run _ _ exchanges lead numbered c.audit.ensures.agreed.0) ran.finds
+    FindsWhole-map (λ exchanges lead. shared_run _ _ exchanges lead ran.numbered c.audit.ensures.agreed.0) ran.finds
 
 pub returns-clause-named : goal.returns-clause-named
 returns-clause-named g c =
-    let each = rw c.in_ok-passes.was at c.run_beside_workers-ran.ensures.each in
-    let numbered = rw c.in_ok-passes.was at c.run_beside_workers-ran.ensures.numbered in
-    λ agreed. covered_named _ _ _ each numbered (c.audit.ensures.agreed.0 agreed).0
+    let ran = rw c.in_ok-passes.was at c.run_beside_workers-ran.ensures.ok in
+    λ agreed. covered_named _ _ _ ran.each ran.numbered (c.audit.ensures.agreed.0 agreed).0
