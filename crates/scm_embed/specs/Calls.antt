@@ -14,13 +14,13 @@ use Rattle.scm_sessions.specs.Exchanges.{Answers}
 use Rattle.scm_sessions.specs.Script.{AnswersCall}
 use Rattle.scm_embed.specs.declared.codes.TheConstants.{BAD_NUMBER}
 use Rattle.scm_embed.specs.declared.opening.Cell.{Cell}
-use Rattle.scm_embed.specs.declared.state.State.{State}
+use Rattle.scm_embed.specs.declared.answerer.Answerer.{Answerer}
 use Rattle.scm_embed.specs.Codes.{reply_code}
 use Rattle.scm_embed.specs.Opening.{declarations_of}
 
 -- the name of this number
-abbrev pub name_at : State → ℕ → Option (List ℕ)
-name_at state n = slice_get state.names.items n
+abbrev pub name_at : Answerer → ℕ → Option (List ℕ)
+name_at answerer n = slice_get answerer.names.items n
 
 -- the access of a kind's number to a cell
 abbrev pub access_of_kind : ℕ → List ℕ → ℕ → ℕ → Option Access
@@ -50,34 +50,34 @@ call_of_kind kind trace number =
     else None
 
 -- a number stands for nothing: the answer says so, and all is as it was
-abbrev pub IsBadNumber : State → ℕ → State → Type 0
+abbrev pub IsBadNumber : Answerer → ℕ → Answerer → Type 0
 IsBadNumber before code after = (code ≡ BAD_NUMBER) × (after ≡ before)
 
 -- the last answer is this reply to the session of this name
-abbrev pub HoldsReply : State → List ℕ → ReplyData → Type 0
-HoldsReply state session reply = IsSomeAnd state.answer (λ answer. (answer.name ≡ Some session) × (reply_data answer.reply ≡ reply))
+abbrev pub HoldsReply : Answerer → List ℕ → ReplyData → Type 0
+HoldsReply answerer session reply = IsSomeAnd answerer.answer (λ answer. (answer.name ≡ Some session) × (reply_data answer.reply ≡ reply))
 
 -- nobody has entered, no trace is open, nothing was answered, and no name has a number
-abbrev pub IsNewMonitor : State → Type 0
-IsNewMonitor state =
-    (state.sessions.names ≡ []) × (state.sessions.book.machine ≡ empty_machine) × (state.answer ≡ None) × (state.names.items ≡ [])
+abbrev pub IsNewMonitor : Answerer → Type 0
+IsNewMonitor answerer =
+    (answerer.sessions.names ≡ []) × (answerer.sessions.book.machine ≡ empty_machine) × (answerer.answer ≡ None) × (answerer.names.items ≡ [])
 
 -- a call of the session of this name leads from one monitor to the other one, whose last answer is the reply, of which this is the
 -- number
-abbrev pub MakesCallWithCode : State → List ℕ → CallData → ℕ → State → Type 0
+abbrev pub MakesCallWithCode : Answerer → List ℕ → CallData → ℕ → Answerer → Type 0
 MakesCallWithCode before session call code after =
     (reply : ReplyData) × Answers AnswersCall before.sessions (good session call) reply after.sessions
     × HoldsReply after session reply × (code ≡ reply_code reply) × (after.names ≡ before.names)
 
 -- memory is refused for a call of this session, with everything as it was but the last answer
-abbrev pub RefusesMemory : State → List ℕ → ℕ → State → Type 0
+abbrev pub RefusesMemory : Answerer → List ℕ → ℕ → Answerer → Type 0
 RefusesMemory before session code after =
     (after.sessions ≡ before.sessions) × HoldsReply after session (refused NoMemory) × (code ≡ reply_code (refused NoMemory))
     × (after.names ≡ before.names)
 
 -- the session of one number opens a trace that has the name of the other one, with the cells that are declared; or memory is
 -- refused for these
-abbrev pub OpensAt : State → ℕ → ℕ → ℕ → ℕ → List Cell → ℕ → State → Type 0
+abbrev pub OpensAt : Answerer → ℕ → ℕ → ℕ → ℕ → List Cell → ℕ → Answerer → Type 0
 OpensAt before session trace procs budget cells code after =
     MatchOption (name_at before session) (IsBadNumber before code after)
     (λ s. MatchOption (name_at before trace) (IsBadNumber before code after)
@@ -85,7 +85,7 @@ OpensAt before session trace procs budget cells code after =
     (λ decls. MakesCallWithCode before s (opens t procs budget decls) code after)))
 
 -- the session of one number calls about the trace of the other one
-abbrev pub CallsAt : State → ℕ → ℕ → ℕ → ℕ → ℕ → State → Type 0
+abbrev pub CallsAt : Answerer → ℕ → ℕ → ℕ → ℕ → ℕ → Answerer → Type 0
 CallsAt before session trace kind number code after =
     MatchOption (name_at before session) (IsBadNumber before code after)
     (λ s. MatchOption (name_at before trace) (IsBadNumber before code after)
@@ -93,7 +93,7 @@ CallsAt before session trace kind number code after =
     (λ call. MakesCallWithCode before s call code after)))
 
 -- it reports an access of a process to the cell of a number
-abbrev pub ReportsAt : State → ℕ → ℕ → ℕ → ℕ → ℕ → ℕ → ℕ → ℕ → State → Type 0
+abbrev pub ReportsAt : Answerer → ℕ → ℕ → ℕ → ℕ → ℕ → ℕ → ℕ → ℕ → Answerer → Type 0
 ReportsAt before session trace process kind cell first second code after =
     MatchOption (name_at before session) (IsBadNumber before code after)
     (λ s. MatchOption (name_at before trace) (IsBadNumber before code after)

@@ -1,6 +1,7 @@
 //! The monitor as a static library for C: `include/scm.h` tells its callers what each export answers, and what they owe.
 #![tactic(auto)]
 
+mod answerer;
 mod calls;
 mod codes;
 mod evidence;
@@ -8,7 +9,6 @@ mod lines;
 mod names;
 mod opening;
 mod slot;
-mod state;
 
 ghost use Rattle.std.specs.Prelude.{◌≡◌, ◌≢◌, None, Some, is_some};
 ghost use Rattle.std.specs.Option.{option_map};
@@ -16,10 +16,10 @@ ghost use Rattle.scm_embed.specs.Calls.{CallsAt, OpensAt, ReportsAt};
 ghost use Rattle.scm_embed.specs.Exports.{HoldsAnswer, GivesText, KeepsAll, MakesHeld, OnHeld};
 ghost use Rattle.scm_embed.specs.Reading.{CountsAt, NamesAt, ReadsAt};
 
+use answerer::Answerer;
 use codes::{CLOSED, DONE, NO_MEMORY, NO_ROOM};
 use opening::Cell;
 use slot::Slot;
-use state::State;
 use std::alloc::Global;
 
 /// A monitor, or none: all zeros is none.
@@ -33,8 +33,8 @@ pub struct Monitor {
 
 impl Monitor {
     /// What it holds, which is not there any more.
-    fn take(&mut self, alloc: Global) -> Option<Box<State>>
-        ensures taken { self.old.slot.value ≡ option_map (λ state. state.value) result }
+    fn take(&mut self, alloc: Global) -> Option<Box<Answerer>>
+        ensures taken { self.old.slot.value ≡ option_map (λ answerer. answerer.value) result }
         ensures left { self.new.slot.value ≡ None }
     {
         if !self.live {
@@ -49,31 +49,31 @@ impl Monitor {
     }
 
     /// Holds this.
-    fn put(&mut self, state: Box<State>)
+    fn put(&mut self, answerer: Box<Answerer>)
         requires none { self.old.slot.value ≡ None }
-        ensures held { self.new.slot.value ≡ Some state.value }
+        ensures held { self.new.slot.value ≡ Some answerer.value }
     {
         *self = Monitor {
-            slot: Slot::of(state),
+            slot: Slot::of(answerer),
             live: true,
         };
     }
 }
 
 /// Copies the text of the last answer where it fits.
-fn copy_text(state: &mut State, out: &mut [u8], needed: &mut usize) -> u32
-    ensures kept { KeepsAll state.old state.new }
-    ensures text { GivesText state.new out.old out.new needed.old needed.new result }
+fn copy_text(answerer: &mut Answerer, out: &mut [u8], needed: &mut usize) -> u32
+    ensures kept { KeepsAll answerer.old answerer.new }
+    ensures text { GivesText answerer.new out.old out.new needed.old needed.new result }
 {
-    if state.fetch().is_err() {
+    if answerer.fetch().is_err() {
         return NO_MEMORY;
     }
-    let len = state.text.len();
+    let len = answerer.text.len();
     *needed = len;
     if len > out.len() {
         return NO_ROOM;
     }
-    out[..len].copy_from_slice(state.text.as_slice());
+    out[..len].copy_from_slice(answerer.text.as_slice());
     DONE
 }
 
@@ -85,9 +85,9 @@ pub extern "C" fn scm_make(alloc: Global, m: &mut Monitor) -> u32
     if m.live {
         return CLOSED;
     }
-    match Box::new(alloc, State::new(alloc)) {
-        Ok(state) => {
-            m.put(state);
+    match Box::new(alloc, Answerer::new(alloc)) {
+        Ok(answerer) => {
+            m.put(answerer);
             DONE
         }
         Err(_) => NO_MEMORY,
@@ -115,12 +115,12 @@ pub extern "C" fn scm_line(
         HoldsAnswer before line.now after × GivesText after out.old out.new needed.old needed.new result) }
     ensures closed { m.old.slot.value ≡ None → (out.new ≡ out.old) × (needed.new ≡ needed.old) }
 {
-    let Some(mut state) = m.take(alloc) else {
+    let Some(mut answerer) = m.take(alloc) else {
         return CLOSED;
     };
-    state.read(line);
-    let code = copy_text(&mut state, out, needed);
-    m.put(state);
+    answerer.read(line);
+    let code = copy_text(&mut answerer, out, needed);
+    m.put(answerer);
     code
 }
 
@@ -136,11 +136,11 @@ pub extern "C" fn scm_text(
         KeepsAll before after × GivesText after out.old out.new needed.old needed.new result) }
     ensures closed { m.old.slot.value ≡ None → (out.new ≡ out.old) × (needed.new ≡ needed.old) }
 {
-    let Some(mut state) = m.take(alloc) else {
+    let Some(mut answerer) = m.take(alloc) else {
         return CLOSED;
     };
-    let code = copy_text(&mut state, out, needed);
-    m.put(state);
+    let code = copy_text(&mut answerer, out, needed);
+    m.put(answerer);
     code
 }
 
@@ -151,11 +151,11 @@ pub extern "C" fn scm_name(alloc: Global, m: &mut Monitor, word: &[u8], number: 
         NamesAt before word.now result number.new after) }
     ensures other { result ≢ DONE → number.new ≡ number.old }
 {
-    let Some(mut state) = m.take(alloc) else {
+    let Some(mut answerer) = m.take(alloc) else {
         return CLOSED;
     };
-    let code = state.number_of(word, number);
-    m.put(state);
+    let code = answerer.number_of(word, number);
+    m.put(answerer);
     code
 }
 
@@ -173,11 +173,11 @@ pub extern "C" fn scm_open_trace(
     ensures { OnHeld m.old.slot.value result m.new.slot.value (λ before after.
         OpensAt before session trace procs budget cells.now result after) }
 {
-    let Some(mut state) = m.take(alloc) else {
+    let Some(mut answerer) = m.take(alloc) else {
         return CLOSED;
     };
-    let code = state.open(session, trace, procs, budget, cells);
-    m.put(state);
+    let code = answerer.open(session, trace, procs, budget, cells);
+    m.put(answerer);
     code
 }
 
@@ -197,11 +197,11 @@ pub extern "C" fn scm_report(
     ensures { OnHeld m.old.slot.value result m.new.slot.value (λ before after.
         ReportsAt before session trace process kind cell first second result after) }
 {
-    let Some(mut state) = m.take(alloc) else {
+    let Some(mut answerer) = m.take(alloc) else {
         return CLOSED;
     };
-    let code = state.report(session, trace, process, kind, cell, first, second);
-    m.put(state);
+    let code = answerer.report(session, trace, process, kind, cell, first, second);
+    m.put(answerer);
     code
 }
 
@@ -218,11 +218,11 @@ pub extern "C" fn scm_call(
     ensures { OnHeld m.old.slot.value result m.new.slot.value (λ before after.
         CallsAt before session trace kind number result after) }
 {
-    let Some(mut state) = m.take(alloc) else {
+    let Some(mut answerer) = m.take(alloc) else {
         return CLOSED;
     };
-    let code = state.call(session, trace, kind, number);
-    m.put(state);
+    let code = answerer.call(session, trace, kind, number);
+    m.put(answerer);
     code
 }
 
@@ -238,11 +238,11 @@ pub extern "C" fn scm_evidence_count(
         (after ≡ before) × CountsAt before part result count.new) }
     ensures other { result ≢ DONE → count.new ≡ count.old }
 {
-    let Some(state) = m.take(alloc) else {
+    let Some(answerer) = m.take(alloc) else {
         return CLOSED;
     };
-    let code = state.count(part, count);
-    m.put(state);
+    let code = answerer.count(part, count);
+    m.put(answerer);
     code
 }
 
@@ -260,10 +260,10 @@ pub extern "C" fn scm_evidence_at(
         ReadsAt before part row field result number.new after) }
     ensures other { result ≢ DONE → number.new ≡ number.old }
 {
-    let Some(mut state) = m.take(alloc) else {
+    let Some(mut answerer) = m.take(alloc) else {
         return CLOSED;
     };
-    let code = state.evidence(part, row, field, number);
-    m.put(state);
+    let code = answerer.evidence(part, row, field, number);
+    m.put(answerer);
     code
 }

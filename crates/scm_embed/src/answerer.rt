@@ -23,7 +23,7 @@ use std::alloc::Global;
 
 /// The sessions and their book, and the last answer, with its text where `fetch` wrote it.
 #[derive(Drop)]
-pub struct State {
+pub struct Answerer {
     alloc: Global,
     pub(crate) sessions: Sessions,
     pub(crate) answer: Option<Answer>,
@@ -44,12 +44,12 @@ fn cut(line: &[u8]) -> Option<&[u8]>
     }
 }
 
-impl State {
+impl Answerer {
     /// No session has entered, and no trace is open.
-    pub(crate) fn new(alloc: Global) -> State
+    pub(crate) fn new(alloc: Global) -> Answerer
         ensures { IsNewMonitor result }
     {
-        State {
+        Answerer {
             alloc,
             sessions: Sessions::new(alloc, Book::new(alloc)),
             answer: None,

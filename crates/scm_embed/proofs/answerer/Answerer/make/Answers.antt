@@ -1,5 +1,5 @@
 use Rattle.scm_book.specs.Calls.{reply_data}
-use Rattle.scm_embed.proofs.state.State.make.Goals as goal
+use Rattle.scm_embed.proofs.answerer.Answerer.make.Goals as goal
 
 pub returns : goal.returns
 returns c =
