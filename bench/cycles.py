@@ -88,18 +88,24 @@ def small(program, name, values, samples):
     show(name, inconsistent, lengths, [])
 
 
+def asked_for_cycle(program, reports):
+    """How many lines the short refutation of the reported trace has, none where there is none, and the time of the question
+    without the reports'."""
+    _, reporting = schedules.run(program, reports)
+    replies, taken = schedules.run(program, [*reports, "a cycle t"])
+    return replies and refuted(replies[-1]), max(0.0, taken - reporting)
+
+
 def large(program, name, procs, length, samples, values=0):
-    """Of large traces of buffered stores: how many are refuted, and the time of that, without the reports'."""
+    """Of large traces of buffered stores: how many are refuted, and the time of that."""
     rng = random.Random(name)
     made, lengths, times = 0, [], []
     for _ in range(samples):
         memory, count = buffered(rng, procs, length, 8, values)
         lines = list(traces.script(memory, count))
-        _, reporting = schedules.run(program, lines[:-1])
-        replies, taken = schedules.run(program, [*lines[:-1], "a cycle t"])
+        found, taken = asked_for_cycle(program, lines[:-1])
         made += 1
-        times.append(max(0.0, taken - reporting))
-        found = replies and refuted(replies[-1])
+        times.append(taken)
         if found:
             lengths.append(found)
     show(name, made, lengths, times)
@@ -124,11 +130,9 @@ def changed(program, name, procs, length, cells, values, samples):
         lines = list(traces.script(memory, cells))
         if schedules.run(program, lines)[0][-1].startswith(b"a consistent"):
             continue
-        _, reporting = schedules.run(program, lines[:-1])
-        replies, taken = schedules.run(program, [*lines[:-1], "a cycle t"])
+        found, taken = asked_for_cycle(program, lines[:-1])
         made += 1
-        times.append(max(0.0, taken - reporting))
-        found = refuted(replies[-1])
+        times.append(taken)
         if found:
             lengths.append(found)
     show(name, made, lengths, times)

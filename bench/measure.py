@@ -90,25 +90,25 @@ def reports():
         yield f"a do t{number % TRACES} {number // TRACES // len(accesses) % 2} {access}"
 
 
-def forbidden(writers):
-    """Each writer stores to a cell of its own; a reader claims to have seen what nobody stored. (STORES + 1) to the
-    number of writers situations can be reached, and none is whole."""
-    cells = [f"c{writer}" for writer in range(writers)]
-    yield from opened("t", writers + 1, cells)
+def stored(writers):
+    """Each writer stores to a cell of its own, so that (STORES + 1) to the number of writers situations can be reached. A reader
+    has reported nothing yet."""
+    yield from opened("t", writers + 1, [f"c{writer}" for writer in range(writers)])
     for writer in range(writers):
         for value in range(1, STORES + 1):
             yield f"a do t {writer} sw c{writer} {value}"
+
+
+def forbidden(writers):
+    """The reader claims to have seen what nobody stored: no situation is whole."""
+    yield from stored(writers)
     yield f"a do t {writers} lw c0 {STORES + 1}"
     yield "a ask t"
 
 
 def allowed(writers):
-    """The same, but the reader saw the last store of each writer: consistent, with one operation more for each."""
-    cells = [f"c{writer}" for writer in range(writers)]
-    yield from opened("t", writers + 1, cells)
-    for writer in range(writers):
-        for value in range(1, STORES + 1):
-            yield f"a do t {writer} sw c{writer} {value}"
+    """The reader saw the last store of each writer: consistent, with one operation more for each."""
+    yield from stored(writers)
     for writer in range(writers):
         yield f"a do t {writers} lw c{writer} {STORES}"
     yield "a ask t"
