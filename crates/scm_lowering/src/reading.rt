@@ -80,18 +80,6 @@ fn find_with_two(word: &[u8], cell: &[u8], first: &[u8], second: &[u8]) -> Optio
     two_numbers(word, Name::read(cell)?, read_num(first)?, read_num(second)?)
 }
 
-/// The access that words stand for, if they stand for one.
-#[tactic(auto, unfolding(crate::specs::Accesses::access_of_words))]
-fn find_access(words: &[&[u8]]) -> Option<Access>
-    ensures { result ≡ access_of_words (map (λ word. word.now) words.now) }
-{
-    match words {
-        [word, cell, value] => find_with_one(word, cell, value),
-        [word, cell, first, second] => find_with_two(word, cell, first, second),
-        _ => None,
-    }
-}
-
 /// The access that words stand for:
 ///
 /// - `lw`, `ld`, `sw` or `sd`, the name of a cell and a value;
@@ -99,8 +87,15 @@ fn find_access(words: &[&[u8]]) -> Option<Access>
 /// - `rw`, the name of a cell, the old value and the new one.
 ///
 /// Any other words are refused `BadLine`.
+#[tactic(auto, unfolding(crate::specs::Accesses::access_of_words))]
 pub fn read_access(words: &[&[u8]]) -> Result<Access, Refusal>
     ensures { result ≡ ok_or (access_of_words (map (λ word. word.now) words.now)) BadLine }
 {
-    find_access(words).ok_or(Refusal::BadLine)
+    match words {
+        [word, cell, value] => find_with_one(word, cell, value).ok_or(Refusal::BadLine),
+        [word, cell, first, second] => {
+            find_with_two(word, cell, first, second).ok_or(Refusal::BadLine)
+        }
+        _ => Err(Refusal::BadLine),
+    }
 }
