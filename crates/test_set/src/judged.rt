@@ -1,6 +1,6 @@
 //! Schedules and refutations of others, judged: worked examples.
-use crate::situations::situation;
-use crate::traces::{INITIALS, cell_of, digit, lengths_in, parts_of, sequences_in, value};
+use crate::situations::situation_in;
+use crate::traces::{INITIALS, cell_named, digit, lengths_in, parts_of, sequences_in, value};
 use scm_frontier::Situation;
 use scm_schedules::{fixed, is_legal, refutes};
 use scm_sequences::{Lengths, MOST_CELLS, Sequences};
@@ -31,20 +31,20 @@ const SCHEDULES: &str = "
 /// Traces of two processes on the cells o, x and y, cut where there is a mark, and lists of situations. A closed list refutes
 /// also with more than can be reached.
 const REFUTATIONS: &str = "
-    0Wx1 0Ry0 1Wy1 1Rx0: 00/?00 01/?01 02/?01 10/?10 11/?11 12/?11 20/?10 21/?11 => refuted
-    0Wx1 0Ry0 1Wy1 1Rx0: 01/?01 00/?00 02/?01 10/?10 11/?11 12/?11 20/?10 21/?11 => open
-    0Wx1 0Ry0 1Wy1 1Rx0: 00/?00 01/?01 02/?01 10/?10 11/?11 12/?11 20/?10 => open
-    0Wx1 0Ry0 1Wy1 1Rx0: 01/?01 02/?01 10/?10 11/?11 12/?11 20/?10 21/?11 => open
-    1Rx1: 00/?00 => refuted
-    1Rx1: 00/?00 00/?50 => refuted
-    1Rx1: 00/?00 00/?10 => open
-    1Rx1: 00/?00 00/?00 => open
+    0Wx1 0Ry0 1Wy1 1Rx0: 0,0/?,0,0 0,1/?,0,1 0,2/?,0,1 1,0/?,1,0 1,1/?,1,1 1,2/?,1,1 2,0/?,1,0 2,1/?,1,1 => refuted
+    0Wx1 0Ry0 1Wy1 1Rx0: 0,1/?,0,1 0,0/?,0,0 0,2/?,0,1 1,0/?,1,0 1,1/?,1,1 1,2/?,1,1 2,0/?,1,0 2,1/?,1,1 => open
+    0Wx1 0Ry0 1Wy1 1Rx0: 0,0/?,0,0 0,1/?,0,1 0,2/?,0,1 1,0/?,1,0 1,1/?,1,1 1,2/?,1,1 2,0/?,1,0 => open
+    0Wx1 0Ry0 1Wy1 1Rx0: 0,1/?,0,1 0,2/?,0,1 1,0/?,1,0 1,1/?,1,1 1,2/?,1,1 2,0/?,1,0 2,1/?,1,1 => open
+    1Rx1: 0,0/?,0,0 => refuted
+    1Rx1: 0,0/?,0,0 0,0/?,5,0 => refuted
+    1Rx1: 0,0/?,0,0 0,0/?,1,0 => open
+    1Rx1: 0,0/?,0,0 0,0/?,0,0 => open
     1Rx1: => open
-    / 1Rx1: 00/?00 => open
-    1Rx1: 000/?00 => open
-    1Rx1: 0/?00 => open
-    1Rx1: 00/?000 => open
-    1Rx1: 00/ => open
+    / 1Rx1: 0,0/?,0,0 => open
+    1Rx1: 0,0,0/?,0,0 => open
+    1Rx1: 0/?,0,0 => open
+    1Rx1: 0,0/?,0,0,0 => open
+    1Rx1: 0,0/ => open
 ";
 
 /// Whether it is a schedule of the trace, cut to these lengths.
@@ -110,7 +110,7 @@ fn fixed_values(rt: &impl Abort, alloc: Global, text: &str) -> Vec<(u8, u64)> {
     let mut values = Vec::new(alloc);
     for word in text.split_whitespace() {
         let (name, number) = word.split_at_checked(1).expect(rt, "a cell and a value");
-        let cell = cell_of(name.bytes().next().expect(rt, "a cell"));
+        let cell = cell_named(name.bytes().next().expect(rt, "a cell"));
         values.push((cell, value(rt, number))).expect(rt, "memory");
     }
     values
@@ -136,28 +136,6 @@ fn schedules(rt: HostRuntime) {
     }
 }
 
-/// The situation with these counts and contents, as `10/?1` says.
-fn situation_of(rt: &impl Abort, alloc: Global, text: &str) -> Situation {
-    let (places, values) = text.split_once('/').expect(rt, "counts and contents");
-    let mut counts = Vec::new(alloc);
-    for byte in places.as_bytes() {
-        counts.push(u32::from(digit(*byte))).expect(rt, "memory");
-    }
-    let mut contents = Vec::new(alloc);
-    for byte in values.as_bytes() {
-        contents.push(content(*byte)).expect(rt, "memory");
-    }
-    situation(rt, alloc, &counts, &contents)
-}
-
-fn content(byte: u8) -> Option<u64> {
-    if byte == b'?' {
-        None
-    } else {
-        Some(u64::from(digit(byte)))
-    }
-}
-
 fn judge_refutation(rt: &impl Abort, alloc: Global, row: &str) {
     let (trace, list, verdict) = parts_of(rt, row);
     let sequences = sequences_in(rt, alloc, 2, trace);
@@ -165,7 +143,7 @@ fn judge_refutation(rt: &impl Abort, alloc: Global, row: &str) {
     let mut situations = Vec::new(alloc);
     for text in list.split_whitespace() {
         situations
-            .push(situation_of(rt, alloc, text))
+            .push(situation_in(rt, alloc, text))
             .expect(rt, "memory");
     }
     let initials = &INITIALS[..3];

@@ -3,19 +3,25 @@
 #![tactic(auto)]
 
 #[cfg(test)]
-mod asked;
-#[cfg(test)]
 mod contents;
+#[cfg(test)]
+mod dice;
 #[cfg(test)]
 mod forms;
 #[cfg(test)]
+mod growing;
+#[cfg(test)]
 mod judged;
+#[cfg(test)]
+mod layouts;
 #[cfg(test)]
 mod litmus;
 #[cfg(test)]
 mod marks_again;
 #[cfg(test)]
 mod orders;
+#[cfg(test)]
+mod outgrowing;
 #[cfg(test)]
 mod packed_steps;
 #[cfg(test)]
@@ -30,6 +36,8 @@ mod reach;
 mod situations;
 #[cfg(test)]
 mod sleeping;
+#[cfg(test)]
+mod subject;
 #[cfg(test)]
 mod tasks;
 #[cfg(test)]

@@ -1,10 +1,10 @@
 //! The classical litmus tests in each form in which a set holds situations: the answers are those of a plain list, and
 //! the same in all forms.
 
-use crate::asked::{Asked, cells};
 use crate::forms::{Form, is_right_at_the_end, narrowest};
 use crate::judged::{is_legal_schedule, is_refuted};
 use crate::plain_list::{PlainList, agree};
+use crate::subject::{Subject, cells};
 use crate::traces::{counts_in, operation, parts_of, read, write};
 use scm_frontier::Situation;
 use scm_reach::Settled;
@@ -162,7 +162,7 @@ fn shape_of((form, procs, values): (Form, usize, u64)) -> Shape {
 
 /// A part of a course.
 #[derive(Clone, Copy)]
-enum Part {
+enum Act {
     ReportBefore,
     ReportBehind,
     /// The form is the wanted one.
@@ -177,10 +177,10 @@ enum Part {
     GoBackBare,
 }
 
-use Part::*;
+use Act::*;
 
 /// In which order a row is reported and asked about.
-const AT_ONCE: &[Part] = &[
+const AT_ONCE: &[Act] = &[
     ReportBefore,
     ReportBehind,
     LookAtForm,
@@ -188,9 +188,9 @@ const AT_ONCE: &[Part] = &[
     AskAboutAll,
 ];
 
-const AT_MARK: &[Part] = &[ReportBefore, ReportBehind, AskAtMark, AskAtEnd, AskAtMark];
+const AT_MARK: &[Act] = &[ReportBefore, ReportBehind, AskAtMark, AskAtEnd, AskAtMark];
 
-const AND_BACK: &[Part] = &[
+const AND_BACK: &[Act] = &[
     ReportBefore,
     AskAtMark,
     ReportBehind,
@@ -212,7 +212,7 @@ const AND_BACK: &[Part] = &[
 struct Trial {
     row: Row,
     shape: Shape,
-    asked: Asked,
+    subject: Subject,
     said: Vec<Option<u64>>,
     alloc: Global,
 }
@@ -223,21 +223,21 @@ impl Trial {
         assert!(rt; 0 < row.cells && row.cells <= 4 && shape.procs <= 28);
         assert!(rt; 0 < row.procs && row.procs <= 4);
         let cells = cells(rt, alloc, row.cells + 2 * shape.procs as u8);
-        let mut asked = Asked::new(rt, alloc, &cells, row.procs + shape.procs);
-        load(rt, &mut asked, row, &shape);
+        let mut subject = Subject::new(rt, alloc, &cells, row.procs + shape.procs);
+        load(rt, &mut subject, row, &shape);
         Trial {
             row: *row,
             shape,
-            asked,
+            subject,
             said: Vec::new(alloc),
             alloc,
         }
     }
 
-    fn take_part(&mut self, rt: &impl Abort, part: Part) {
-        match part {
-            ReportBefore => self.asked.report_all(rt, self.row.before),
-            ReportBehind => self.asked.report_all(rt, self.row.behind),
+    fn act(&mut self, rt: &impl Abort, it: Act) {
+        match it {
+            ReportBefore => self.subject.report_all(rt, self.row.before),
+            ReportBehind => self.subject.report_all(rt, self.row.behind),
             LookAtForm => self.look_at_form(rt),
             AskAtMark => self.ask(rt, false),
             AskAtEnd => self.ask(rt, true),
@@ -251,7 +251,7 @@ impl Trial {
     fn lengths(&self, rt: &impl Abort, is_end: bool, with_ballast: bool) -> Lengths {
         let mut counts = counts_in(rt, self.row.before);
         let behind = counts_in(rt, self.row.behind);
-        let whole = self.asked.sequences().lengths();
+        let whole = self.subject.sequences().lengths();
         assert!(rt; whole.procs() <= MOST_PROCESSES);
         for p in 0..whole.procs() {
             if with_ballast && self.row.procs <= p {
@@ -266,13 +266,13 @@ impl Trial {
 
     fn go_back(&mut self, rt: &impl Abort, with_ballast: bool) {
         let lengths = self.lengths(rt, false, with_ballast);
-        self.asked.go_back(rt, &lengths);
+        self.subject.go_back(rt, &lengths);
     }
 
     /// Asks about the row at its mark or at its end, and notes the answer.
     fn ask(&mut self, rt: &impl Abort, is_end: bool) {
         let lengths = self.lengths(rt, is_end, false);
-        let settled = self.asked.ask(rt, &lengths);
+        let settled = self.subject.ask(rt, &lengths);
         self.compare(rt, &lengths, settled, is_end);
         if let Settled::Whole(id) = settled {
             self.note_schedule(rt, &lengths, id);
@@ -287,7 +287,7 @@ impl Trial {
         } else {
             self.row.at_mark
         };
-        let (reach, sequences) = (self.asked.reach(), self.asked.sequences());
+        let (reach, sequences) = (self.subject.reach(), self.subject.sequences());
         let list = PlainList::of(rt, self.alloc, reach.initials(), sequences, lengths);
         self.expect(
             rt,
@@ -304,7 +304,7 @@ impl Trial {
 
     /// The situations that are held are the listed ones, and refute the row.
     fn compare_refutation(&self, rt: &impl Abort, lengths: &Lengths, listed: &[Situation]) {
-        let (reach, sequences) = (self.asked.reach(), self.asked.sequences());
+        let (reach, sequences) = (self.subject.reach(), self.subject.sequences());
         let held = refutation(self.alloc, reach, lengths).expect(rt, "memory");
         self.expect(rt, held.as_slice() == listed, "the refutation");
         let initials = reach.initials();
@@ -321,7 +321,7 @@ impl Trial {
     }
 
     fn schedule_to(&self, rt: &impl Abort, lengths: &Lengths, id: usize) -> Vec<u8> {
-        let (reach, sequences) = (self.asked.reach(), self.asked.sequences());
+        let (reach, sequences) = (self.subject.reach(), self.subject.sequences());
         assert!(rt; id < reach.held());
         let places = schedule(self.alloc, reach, id).expect(rt, "memory");
         assert!(rt; is_legal_schedule(rt, reach.initials(), sequences, lengths, &places));
@@ -329,7 +329,7 @@ impl Trial {
     }
 
     fn note_held(&mut self, rt: &impl Abort, lengths: &Lengths) {
-        let held = refutation(self.alloc, self.asked.reach(), lengths).expect(rt, "memory");
+        let held = refutation(self.alloc, self.subject.reach(), lengths).expect(rt, "memory");
         for situation in &held {
             note_counts(rt, &mut self.said, self.row.procs, situation);
             note_contents(rt, &mut self.said, usize::from(self.row.cells), situation);
@@ -339,14 +339,14 @@ impl Trial {
     /// Where there is ballast, which is no situation more.
     fn ask_about_all(&mut self, rt: &impl Abort) {
         if self.shape.procs > 0 {
-            let is_right = is_right_at_the_end(rt, self.alloc, &mut self.asked);
-            let held = self.asked.reach().held();
+            let is_right = is_right_at_the_end(rt, self.alloc, &mut self.subject);
+            let held = self.subject.reach().held();
             self.expect(rt, is_right && held == self.row.at_end.situations, "all");
         }
     }
 
     fn look_at_form(&self, rt: &impl Abort) {
-        let form = narrowest(rt, self.alloc, &self.asked);
+        let form = narrowest(rt, self.alloc, &self.subject);
         self.expect(rt, form == self.shape.form, "the form");
     }
 
@@ -358,22 +358,22 @@ impl Trial {
 }
 
 /// Reports the ballast.
-fn load(rt: &impl Abort, asked: &mut Asked, row: &Row, shape: &Shape) {
+fn load(rt: &impl Abort, subject: &mut Subject, row: &Row, shape: &Shape) {
     let mut cell = row.cells;
-    for p in row.procs..asked.sequences().procs() {
+    for p in row.procs..subject.sequences().procs() {
         let next = cell.checked_add(2).expect(rt, "a cell");
-        add_writes(rt, asked, p, cell..next, shape.values);
+        add_writes(rt, subject, p, cell..next, shape.values);
         cell = next;
     }
 }
 
 /// A process reads what nobody writes, and then writes these many values to each of these cells: no situation more, but a
 /// longer word.
-fn add_writes(rt: &impl Abort, asked: &mut Asked, p: usize, cells: Range<u8>, values: u64) {
+fn add_writes(rt: &impl Abort, subject: &mut Subject, p: usize, cells: Range<u8>, values: u64) {
     for c in cells {
-        asked.report(rt, p, read(c, 99));
+        subject.report(rt, p, read(c, 99));
         for value in 1..=values {
-            asked.report(rt, p, write(c, value));
+            subject.report(rt, p, write(c, value));
         }
     }
 }
@@ -404,17 +404,17 @@ fn said(
     alloc: Global,
     row: &Row,
     shape: Shape,
-    course: &[Part],
+    course: &[Act],
 ) -> Vec<Option<u64>> {
     let mut trial = Trial::new(rt, alloc, row, shape);
-    for part in course {
-        trial.take_part(rt, *part);
+    for act in course {
+        trial.act(rt, *act);
     }
     trial.said
 }
 
 /// Each row is answered the same in these forms as in the first one.
-fn compare_forms(rt: &impl Abort, alloc: Global, course: &[Part], shapes: &[(Form, usize, u64)]) {
+fn compare_forms(rt: &impl Abort, alloc: Global, course: &[Act], shapes: &[(Form, usize, u64)]) {
     for line in ROWS.trim().lines() {
         let row = row_of(rt, line);
         let first = said(rt, alloc, &row, shape_of(SHAPES[0]), course);

@@ -1,35 +1,11 @@
 //! Steps on words, in the layouts of whole traces: that calls succeed, and that fields are filled to the last bit.
-ghost use Rattle.std.specs.Prelude.{◌≡◌, ◌≤◌, IfSome};
+ghost use Rattle.std.specs.Prelude.{◌≡◌, ◌≤◌};
 
+use crate::layouts::{layout_of, some_layout_of};
 use scm_frontier::{Layout, NoRoom, Situation, Steps, Word};
 use scm_sequences::{MOST_CELLS, MOST_PROCESSES, Op, Sequences};
 use std::alloc::Global;
 use std::process::Abort;
-
-/// The layout of a word for a trace.
-fn layout<W: Word>(
-    rt: &impl Abort,
-    alloc: Global,
-    initials: &[Option<u64>],
-    sequences: &Sequences,
-) -> Option<Layout>
-    ensures { IfSome result (λ l. l.bits ≡ W.BITS) }
-{
-    assert!(rt; initials.len() <= MOST_CELLS && sequences.names_cells_below(initials.len()));
-    Layout::of::<W>(alloc, initials, sequences).expect(rt, "memory")
-}
-
-/// The same, which there is.
-fn layout_for<W: Word>(
-    rt: &impl Abort,
-    alloc: Global,
-    initials: &[Option<u64>],
-    sequences: &Sequences,
-) -> Layout
-    ensures { result.bits ≡ W.BITS }
-{
-    layout::<W>(rt, alloc, initials, sequences).expect(rt, "so many bits do")
-}
 
 /// Process `p` writes 0, 1, 2, 3 to four cells in turn, so many times in all.
 fn write_in_turn(rt: &impl Abort, sequences: &mut Sequences, p: usize, times: u8) {
@@ -110,7 +86,7 @@ const ZEROS: [Option<u64>; 4] = [Some(0), Some(0), Some(0), Some(0)];
 /// The operations of so many processes, so many of each, can be made on words of the layout for their trace.
 fn assert_walked<W: Word>(rt: &impl Abort, alloc: Global, procs: usize, times: u8) {
     let sequences = writers(rt, alloc, procs, times);
-    let full = layout_for::<W>(rt, alloc, &ZEROS, &sequences);
+    let full = some_layout_of::<W>(rt, alloc, &ZEROS, &sequences);
     let start: W = start(rt, alloc, &full, &ZEROS);
     assert!(rt; is_walked(rt, &full, start, &sequences));
 }
@@ -126,8 +102,8 @@ fn steps_go_on_in_full_words(rt: HostRuntime) {
 fn one_value_more_wants_a_longer_word(rt: HostRuntime) {
     let mut sequences = writers(&rt, rt.alloc(), 8, 100);
     push(&rt, &mut sequences, 0, Op::R { cell: 0, value: 4 });
-    assert!(rt; layout::<u64>(&rt, rt.alloc(), &ZEROS, &sequences).is_none());
-    assert!(rt; layout::<u128>(&rt, rt.alloc(), &ZEROS, &sequences).is_some());
+    assert!(rt; layout_of::<u64>(&rt, rt.alloc(), &ZEROS, &sequences).is_none());
+    assert!(rt; layout_of::<u128>(&rt, rt.alloc(), &ZEROS, &sequences).is_some());
 }
 
 /// One process reads a value that nobody writes of a cell that holds 0, another the greatest value of an open cell.
@@ -147,7 +123,7 @@ fn layout_of_reads(rt: &impl Abort, alloc: Global) -> Layout
     let mut sequences = Sequences::new(alloc, 2).expect(rt, "memory");
     push(rt, &mut sequences, 0, READS[0]);
     push(rt, &mut sequences, 1, READS[1]);
-    layout_for::<u64>(rt, alloc, &ONE_OPEN, &sequences)
+    some_layout_of::<u64>(rt, alloc, &ONE_OPEN, &sequences)
 }
 
 #[test]
@@ -163,7 +139,7 @@ fn values_that_are_only_read_have_numbers(rt: HostRuntime) {
 
 #[test]
 fn a_full_count_has_no_room_for_one_more(rt: HostRuntime) {
-    let full = layout_for::<u64>(&rt, rt.alloc(), &ZEROS, &writers(&rt, rt.alloc(), 8, 127));
+    let full = some_layout_of::<u64>(&rt, rt.alloc(), &ZEROS, &writers(&rt, rt.alloc(), 8, 127));
     let mut word: u64 = start(&rt, rt.alloc(), &full, &ZEROS);
     let write = Op::W { cell: 3, value: 3 };
     for _ in 0..127 {

@@ -1,98 +1,38 @@
 //! Situations in words: that calls succeed, and words that are full to the last bit.
-ghost use Rattle.std.specs.Prelude.{◌≡◌, ◌≤◌, IfSome};
+ghost use Rattle.std.specs.Prelude.{◌≤◌};
 
-use crate::situations::situation;
-use crate::traces::{parts_of, value};
-use scm_frontier::{CellValues, Layout, MOST_BITS, Situation, Word};
-use scm_sequences::{Lengths, MOST_PROCESSES};
+use crate::layouts::{layout_up_to, some_layout_up_to};
+use crate::situations::{listed_counts, situation, situation_in};
+use crate::traces::parts_of;
+use scm_frontier::{Layout, Situation, Word};
 use std::alloc::Global;
 use std::process::Abort;
 
 /// What is done, the bits of a word and the counts that its layout is for, with one cell that is open at first and then holds
-/// the greatest value. W is the greatest count of 32 bits, L that of 31.
+/// the greatest value. Counts are as `situations` reads them.
 ///
 /// - `pack`: counts and contents of a situation, which is packed.
 /// - `across`: the same, by way of a word of 64 bits in the layout for the counts W and L.
 const ROWS: &str = "
-    pack 64 W L: W L / -1 => kept
-    pack 128 W*3 L: W*3 L / -1 => kept
-    pack 64 W*2: W*2 / -1 => no layout
-    pack 128 W*4: W*4 / -1 => no layout
-    pack 128 L*4: L 0 L 0 / ? => kept
-    pack 128 L*4: 0 L 0 L / ? => kept
-    pack 64 W L: W 2147483648 / -1 => no word
-    pack 64 W L: W L / -2 => no word
-    pack 64 1*15: 7*15 / ? => kept
-    pack 64 3: 3 / ? => kept
-    across 64 W L: W L / ? => kept
-    across 64 W L: W L / -1 => kept
-    across 128 W L: W L / ? => kept
-    across 128 W L: W L / -1 => kept
-    across 64 7 L: W L / ? => no word
-    across 64 7 L: W L / -1 => no word
-    across 64 7 L: 7 L / ? => kept
-    across 64 7 L: 7 L / -1 => kept
+    pack 64 W,L: W,L/-1 => kept
+    pack 128 W*3,L: W*3,L/-1 => kept
+    pack 64 W*2: W*2/-1 => no layout
+    pack 128 W*4: W*4/-1 => no layout
+    pack 128 L*4: L,0,L,0/? => kept
+    pack 128 L*4: 0,L,0,L/? => kept
+    pack 64 W,L: W,2147483648/-1 => no word
+    pack 64 W,L: W,L/-2 => no word
+    pack 64 1*15: 7*15/? => kept
+    pack 64 3: 3/? => kept
+    across 64 W,L: W,L/? => kept
+    across 64 W,L: W,L/-1 => kept
+    across 128 W,L: W,L/? => kept
+    across 128 W,L: W,L/-1 => kept
+    across 64 7,L: W,L/? => no word
+    across 64 7,L: W,L/-1 => no word
+    across 64 7,L: 7,L/? => kept
+    across 64 7,L: 7,L/-1 => kept
 ";
-
-fn count(rt: &impl Abort, word: &str) -> u32 {
-    match word {
-        "W" => u32::MAX,
-        "L" => u32::MAX / 2,
-        _ => word.parse::<u32>().expect(rt, "a count"),
-    }
-}
-
-/// The counts of a text, each of them so often as a star says.
-fn counts(rt: &impl Abort, alloc: Global, text: &str) -> Vec<u32> {
-    let mut counts = Vec::new(alloc);
-    for word in text.split_whitespace() {
-        let (word, times) = word.split_once('*').unwrap_or((word, "1"));
-        for _ in 0..count(rt, times) {
-            counts.push(count(rt, word)).expect(rt, "memory");
-        }
-    }
-    counts
-}
-
-fn content(rt: &impl Abort, word: &str) -> Option<u64> {
-    if word == "?" {
-        None
-    } else {
-        Some(value(rt, word))
-    }
-}
-
-/// What a cell may hold that is open at first and then has these values.
-fn open_or(rt: &impl Abort, alloc: Global, values: &[u64]) -> CellValues {
-    let mut held = CellValues::new(alloc, None).expect(rt, "memory");
-    for value in values {
-        assert!(rt; held.len() < 100);
-        held.add(*value).expect(rt, "memory");
-    }
-    held
-}
-
-/// The layout for counts up to these, and for one such cell.
-fn layout(
-    rt: &impl Abort,
-    alloc: Global,
-    bits: u32,
-    counts: &[u32],
-    values: &[u64],
-) -> Option<Layout>
-    ensures { IfSome result (λ l. l.bits ≡ bits) }
-{
-    assert!(rt; bits <= MOST_BITS && !counts.is_empty() && counts.len() <= MOST_PROCESSES);
-    let values = vec![in alloc; open_or(rt, alloc, values)].expect(rt, "memory");
-    Layout::new(alloc, bits, &Lengths::new(alloc, counts), values).expect(rt, "memory")
-}
-
-/// The same, which there is, for the greatest value.
-fn layout_for(rt: &impl Abort, alloc: Global, bits: u32, counts: &[u32]) -> Layout
-    ensures { result.bits ≡ bits }
-{
-    layout(rt, alloc, bits, counts, &[u64::MAX]).expect(rt, "so many bits do")
-}
 
 /// Whether the word stands for the situation.
 fn stands_for<W: Word>(
@@ -146,14 +86,9 @@ fn said_of(is_kept: Option<bool>) -> &'static str {
     }
 }
 
-fn situation_of(rt: &impl Abort, alloc: Global, text: &str) -> Situation {
-    let (places, held) = text.split_once(" / ").expect(rt, "counts and contents");
-    situation(rt, alloc, &counts(rt, alloc, places), &[content(rt, held)])
-}
-
 fn packed<W: Word>(rt: &impl Abort, alloc: Global, less: &[u32], text: &str) -> &'static str {
-    let it = situation_of(rt, alloc, text);
-    match layout(rt, alloc, W::BITS, less, &[u64::MAX]) {
+    let it = situation_in(rt, alloc, text);
+    match layout_up_to(rt, alloc, W::BITS, less, &[u64::MAX]) {
         Some(layout) => said_of(is_kept::<W>(rt, alloc, &layout, &it)),
         None => "no layout",
     }
@@ -165,9 +100,9 @@ fn packed_across<W: Word + Drop>(
     less: &[u32],
     text: &str,
 ) -> &'static str {
-    let it = situation_of(rt, alloc, text);
-    let from = layout_for(rt, alloc, 64, &[u32::MAX, u32::MAX / 2]);
-    let to = layout_for(rt, alloc, W::BITS, less);
+    let it = situation_in(rt, alloc, text);
+    let from = some_layout_up_to(rt, alloc, 64, &[u32::MAX, u32::MAX / 2]);
+    let to = some_layout_up_to(rt, alloc, W::BITS, less);
     said_of(is_kept_across::<W>(rt, alloc, &from, &to, &it))
 }
 
@@ -189,7 +124,7 @@ fn check(rt: &impl Abort, alloc: Global, row: &str) {
     let (first, text, wanted) = parts_of(rt, row);
     let (kind, size) = first.split_once(' ').expect(rt, "bits");
     let (bits, less) = size.split_once(' ').expect(rt, "counts");
-    let less = counts(rt, alloc, less);
+    let less = listed_counts(rt, alloc, less);
     let said = match bits {
         "64" => said::<u64>(rt, alloc, kind, &less, text),
         _ => said::<u128>(rt, alloc, kind, &less, text),
@@ -206,8 +141,8 @@ fn situations_are_kept_in_words(rt: HostRuntime) {
 
 /// Whether a situation with this in its cell has the same word by way of a layout of these values in another order.
 fn is_kept_of(rt: &impl Abort, alloc: Global, values: &[u64], held: Option<u64>) -> Option<bool> {
-    let from = layout(rt, alloc, 64, &[3], &[5, u64::MAX]).expect(rt, "64 bits do");
-    let to = layout(rt, alloc, 64, &[3], values).expect(rt, "64 bits do");
+    let from = layout_up_to(rt, alloc, 64, &[3], &[5, u64::MAX]).expect(rt, "64 bits do");
+    let to = layout_up_to(rt, alloc, 64, &[3], values).expect(rt, "64 bits do");
     let it = situation(rt, alloc, &[2], &[held]);
     is_kept_across::<u64>(rt, alloc, &from, &to, &it)
 }

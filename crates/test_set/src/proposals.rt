@@ -1,5 +1,5 @@
 //! That a schedule is proposed where there is one.
-use crate::forms::Numbers;
+use crate::dice::Dice;
 use crate::judged::is_legal_schedule;
 use crate::litmus::ROWS;
 use crate::traces::{INITIALS, parts_of, read, sequences_in, swap, write};
@@ -83,17 +83,17 @@ const SEVERAL_VALUES: Size = Size {
 
 /// What a memory did, whose cells the processes accessed as it came, so many times.
 fn of_size(rt: &impl Abort, alloc: Global, size: Size, seed: u64, accesses: u8) -> Sequences {
-    let mut numbers = Numbers::new(seed);
+    let mut dice = Dice::new(seed);
     let mut contents = [0; 3];
     let procs = usize::from(size.processes);
     assert!(rt; 0 < procs && procs <= MOST_PROCESSES);
     let mut sequences = Sequences::new(alloc, procs).expect(rt, "memory");
     for _ in 0..accesses {
-        let process = usize::from(numbers.below(size.processes));
-        let cell = numbers.below(size.cells);
-        let value = u64::from(numbers.below(size.values));
+        let process = usize::from(dice.below(size.processes));
+        let cell = dice.below(size.cells);
+        let value = u64::from(dice.below(size.values));
         let held = contents.get_mut(usize::from(cell)).expect(rt, "a cell");
-        let (op, left) = match numbers.below(3) {
+        let (op, left) = match dice.below(3) {
             0 => (read(cell, *held), *held),
             1 => (write(cell, value), value),
             _ => (swap(cell, *held, value), value),

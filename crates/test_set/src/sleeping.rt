@@ -1,6 +1,6 @@
 //! What comes of a question, and of steps that sleep: a question counts each step that it makes, and one that sleeps isn't made.
 
-use crate::asked::Asked;
+use crate::subject::Subject;
 use crate::traces::parts_of;
 use scm_reach::Settled;
 use std::alloc::Global;
@@ -44,12 +44,12 @@ fn is_named(settled: Settled, name: Option<&str>) -> bool {
 }
 
 /// Asks about the whole trace under a limit.
-fn ask(rt: &impl Abort, asked: &mut Asked, limit: &str, wanted: &str) {
+fn ask(rt: &impl Abort, subject: &mut Subject, limit: &str, wanted: &str) {
     let mut words = wanted.split_whitespace();
-    let lengths = asked.sequences().lengths();
+    let lengths = subject.sequences().lengths();
     let limit = number(rt, Some(limit)) as usize;
-    let (settled, steps) = asked.ask_under(rt, &lengths, limit);
-    let held = asked.reach().held() as u64;
+    let (settled, steps) = subject.ask_under(rt, &lengths, limit);
+    let held = subject.reach().held() as u64;
     assert!(rt; is_named(settled, words.next()), "{wanted}");
     assert!(rt;
         steps == number(rt, words.next()),
@@ -61,11 +61,11 @@ fn ask(rt: &impl Abort, asked: &mut Asked, limit: &str, wanted: &str) {
 fn ask_in_turn(rt: &impl Abort, alloc: Global, row: &str) {
     let (trace, limits, wanted) = parts_of(rt, row);
     let procs = if trace.contains('2') { 3 } else { 2 };
-    let mut asked = Asked::of(rt, alloc, procs, trace);
+    let mut subject = Subject::of(rt, alloc, procs, trace);
     for (limit, wanted) in limits.split(' ').zip(wanted.split(", ")) {
-        ask(rt, &mut asked, limit, wanted);
+        ask(rt, &mut subject, limit, wanted);
     }
-    drop(asked);
+    drop(subject);
 }
 
 #[test]

@@ -3,7 +3,7 @@ use Rattle.std.proofs.lemmas.List.{length-map}
 use Rattle.scm_sequences.specs.Ops.{NamesCellsBelow}
 use Rattle.scm_sequences.specs.Traces.{trace_of}
 use Rattle.scm_cells.specs.CellLists.{Declared}
-use Rattle.test_set.proofs.asked.Asked.made.Goals as goal
+use Rattle.test_set.proofs.subject.Subject.made.Goals as goal
 
 pub invariant_of-result : goal.invariant_of-result
 invariant_of-result g c =

@@ -36,12 +36,12 @@ fn add(rt: &impl Abort, cells: &mut Cells, c: u8, initial: Initial) {
 
 /// A trace with its set.
 #[derive(Drop)]
-pub(crate) struct Asked {
+pub(crate) struct Subject {
     sequences: Sequences,
     reach: Reach,
 }
 
-impl Model for Asked {
+impl Model for Subject {
     ghost use Rattle.std.specs.Prelude.{length};
     ghost use Rattle.scm_sequences.specs.Ops.{NamesCellsBelow};
     ghost use Rattle.scm_sequences.specs.Traces.{trace_of};
@@ -54,14 +54,14 @@ impl Model for Asked {
     ghost invariant = { λ a. NamesCellsBelow (length a.reach.initials) a.sequences × IsKept (trace_of a.reach.initials a.sequences) a.reach.members };
 }
 
-impl Asked {
+impl Subject {
     /// The trace of so many processes with no operation.
-    pub(crate) fn new(rt: &impl Abort, alloc: Global, cells: &Cells, procs: usize) -> Asked {
+    pub(crate) fn new(rt: &impl Abort, alloc: Global, cells: &Cells, procs: usize) -> Subject {
         assert!(rt; 0 < procs && procs <= MOST_PROCESSES);
-        Asked::made(rt, alloc, cells, procs).expect(rt, "memory")
+        Subject::made(rt, alloc, cells, procs).expect(rt, "memory")
     }
 
-    fn made(rt: &impl Abort, alloc: Global, cells: &Cells, procs: usize) -> Result<Asked, Refusal>
+    fn made(rt: &impl Abort, alloc: Global, cells: &Cells, procs: usize) -> Result<Subject, Refusal>
         requires some { 0 < procs }
         requires most { procs ≤ MOST_PROCESSES }
     {
@@ -69,14 +69,14 @@ impl Asked {
         let is_below = sequences.names_cells_below(cells.len());
         assert!(rt; is_below);
         let reach = Reach::new(alloc, cells, &sequences)?;
-        Ok(Asked { sequences, reach })
+        Ok(Subject { sequences, reach })
     }
 
     /// The trace of so many processes with the operations of a text, on the cells o, x, y and z.
-    pub(crate) fn of(rt: &impl Abort, alloc: Global, procs: usize, text: &str) -> Asked {
-        let mut asked = Asked::new(rt, alloc, &cells(rt, alloc, 4), procs);
-        asked.report_all(rt, text);
-        asked
+    pub(crate) fn of(rt: &impl Abort, alloc: Global, procs: usize, text: &str) -> Subject {
+        let mut subject = Subject::new(rt, alloc, &cells(rt, alloc, 4), procs);
+        subject.report_all(rt, text);
+        subject
     }
 
     /// The sequences of the trace.

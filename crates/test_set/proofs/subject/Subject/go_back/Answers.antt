@@ -4,7 +4,7 @@ use Rattle.scm_sequences.specs.Ops.{NamesCellsBelow}
 use Rattle.scm_sequences.specs.laws.SequenceLaws.{NamesCellsBelow-cut_lists}
 use Rattle.scm_sequences.specs.Traces.{trace_of}
 use Rattle.scm_reach.specs.Kept.{IsKept}
-use Rattle.test_set.proofs.asked.Asked.go_back.Goals as goal
+use Rattle.test_set.proofs.subject.Subject.go_back.Goals as goal
 
 pub invariant_of-self : goal.invariant_of-self
 invariant_of-self g c = (

@@ -5,7 +5,7 @@ use Rattle.scm_sequences.specs.Sequences.{pushed}
 use Rattle.scm_sequences.specs.laws.SequenceLaws.{NamesCellsBelow-pushed}
 use Rattle.scm_sequences.specs.Traces.{trace_of}
 use Rattle.scm_reach.specs.Kept.{Kept, IsKept}
-use Rattle.test_set.proofs.asked.Asked.push.Goals as goal
+use Rattle.test_set.proofs.subject.Subject.push.Goals as goal
 
 pub invariant_of-self-2 : goal.invariant_of-self-2
 invariant_of-self-2 c =
