@@ -2,7 +2,7 @@
 
 use crate::expand::expanded;
 use crate::lending::{add_call, steps_to_ask};
-use crate::words::{ANNA, name, play, played};
+use crate::words::{ANNA, STORE_BUFFERING, name, play, played};
 use scm_book::{Book, Event, Reply, run_events};
 use scm_expand::{Outcome, Task};
 use scm_frontier::Steps;
@@ -13,10 +13,6 @@ use std::process::Abort;
 
 /// A process stores 1.
 const STORE: &str = "open t 1 100 x; claim t 0; do t 0 sw x 1";
-
-/// Each of two processes stores 1 in its own cell, and then loads 0 from the other's.
-const STORE_BUFFERING: &str = "open t 2 100 x y; claim t 0; claim t 1;\
-    do t 0 sw x 1; do t 0 lw y 0; do t 1 sw y 1; do t 1 lw x 0";
 
 /// The next task, if there is one.
 fn take_one(rt: &impl Abort, book: &mut Book) -> Option<Task> {

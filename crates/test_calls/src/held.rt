@@ -1,7 +1,7 @@
 //! That what workers sent is delivered, though they were told to end before.
 ghost use Rattle.std.specs.Prelude.{◌≡◌};
 
-use crate::shared_workers::{accounted, assert_answer, buffered};
+use crate::shared_workers::{assert_answer, audited, buffered};
 use scm_book::Book;
 use scm_expand::{FreeGate, Gate, Outcome, Task, TaskSource, Work, run_workers};
 use scm_results::Tally;
@@ -116,8 +116,7 @@ fn end_early<B: BookNaming + Send + Sync, R: Threads + Wait + Abort + Sync>(
     let shared = SharedBook::<B>::new(alloc, token);
     let pass = buffered(rt, alloc, &shared);
     let tallies = work_held(rt, alloc, &shared);
-    let passes = vec![in alloc; pass].expect(rt, "memory");
-    accounted(rt, shared.audit(passes, tallies), 2)
+    audited(rt, alloc, shared, pass, tallies, 2)
 }
 
 #[test]

@@ -3,11 +3,9 @@ ghost use Rattle.std.specs.Prelude.{◌≡◌};
 
 use crate::lending::assert_held;
 use crate::shared::entered;
-use crate::shared_workers::{accounted, play_shared};
+use crate::shared_workers::{audited, play_shared};
 use scm_book::Book;
 use scm_expand::{FreeGate, TaskSource, run_workers};
-use scm_results::Tally;
-use scm_sequences::NoMemory;
 use scm_shared::{BookNaming, BookToken, Pass, SharedBook};
 use std::alloc::Global;
 use std::marker::Brand;
@@ -29,28 +27,15 @@ const MOST_MILLIS: u64 = 60_000;
 const EMPTY: &str = "open u 1 100 x";
 
 /// A load in t of what nobody stores.
-const FORBIDDEN: &str = "open t 3 20000 x y; claim t 0; claim t 1; claim t 2; do t 2 lw x 2";
+const NEVER_STORED: &str = "open t 3 20000 x y; claim t 0; claim t 1; claim t 2; do t 2 lw x 2";
 
 const STORES: &str = "do t 0 sw x 1; do t 1 sw y 1";
 
 /// So often both stores are reported. So there are more situations than a worker looks for at once.
 const TIMES: usize = 50;
 
-/// The book, where the audit of its only pass agrees, and there is a tally of each worker and of the collector.
-fn audited<B: BookNaming>(
-    rt: &impl Abort,
-    alloc: Global,
-    shared: SharedBook<B>,
-    pass: Pass<B>,
-    tallies: Result<Vec<Tally<B>>, NoMemory>,
-) -> Book {
-    let passes = vec![in alloc; pass].expect(rt, "memory");
-    let audit = shared.audit(passes, tallies.expect(rt, "threads and memory"));
-    accounted(rt, audit, WORKERS as u32 + 1)
-}
-
 /// Reports to t, and asks about u and t, while a worker is held who comes to search the set of t.
-fn call_meanwhile<B: BookNaming, R: Wait + Abort>(
+fn call_while_searching<B: BookNaming, R: Wait + Abort>(
     rt: &R,
     alloc: Global,
     shared: &SharedBook<B>,
@@ -83,19 +68,20 @@ fn hold<B: BookNaming + Send + Sync, R: Threads + Wait + Abort + Sync>(
     let shared = SharedBook::<B>::new(alloc, token);
     let mut pass = entered(rt, &shared);
     play_shared(rt, alloc, &shared, &mut pass, EMPTY);
-    play_shared(rt, alloc, &shared, &mut pass, FORBIDDEN);
+    play_shared(rt, alloc, &shared, &mut pass, NEVER_STORED);
     for _ in 0..TIMES {
         play_shared(rt, alloc, &shared, &mut pass, STORES);
     }
     let (_, tallies) = thread::join(
         rt,
         || {
-            call_meanwhile(rt, alloc, &shared, &mut pass, &barrier);
+            call_while_searching(rt, alloc, &shared, &mut pass, &barrier);
             shared.stop_workers();
         },
         || run_workers::<B, SharedBook<B>, Barrier, R>(rt, alloc, &shared, &barrier, WORKERS),
     );
-    audited(rt, alloc, shared, pass, tallies)
+    let tallies = tallies.expect(rt, "threads and memory");
+    audited(rt, alloc, shared, pass, tallies, WORKERS as u32 + 1)
 }
 
 #[test]
@@ -147,7 +133,7 @@ fn rest<B: BookNaming + Send + Sync, R: Threads + Wait + Abort + Sync>(
 {
     let shared = SharedBook::<B>::new(alloc, token);
     let mut pass = entered(rt, &shared);
-    play_shared(rt, alloc, &shared, &mut pass, FORBIDDEN);
+    play_shared(rt, alloc, &shared, &mut pass, NEVER_STORED);
     for _ in 0..before {
         play_shared(rt, alloc, &shared, &mut pass, STORES);
     }
@@ -162,7 +148,8 @@ fn rest<B: BookNaming + Send + Sync, R: Threads + Wait + Abort + Sync>(
         },
         || run_workers::<B, SharedBook<B>, FreeGate, R>(rt, alloc, &shared, &FreeGate, WORKERS),
     );
-    audited(rt, alloc, shared, pass, tallies)
+    let tallies = tallies.expect(rt, "threads and memory");
+    audited(rt, alloc, shared, pass, tallies, WORKERS as u32 + 1)
 }
 
 #[test]

@@ -3,11 +3,11 @@ ghost use Rattle.std.specs.Prelude.{◌≡◌};
 
 use crate::expand::expanded;
 use crate::shared::entered;
-use crate::words::{call_of, says};
+use crate::words::{STORE_BUFFERING, call_of, says};
 use scm_book::Book;
 use scm_expand::{FreeGate, Outcome, TaskSource, run_workers};
 use scm_results::Tally;
-use scm_shared::{Audit, BookNaming, BookToken, Pass, SharedBook};
+use scm_shared::{BookNaming, BookToken, Pass, SharedBook};
 use std::alloc::Global;
 use std::marker::Brand;
 use std::process::Abort;
@@ -16,12 +16,6 @@ use std::test::Fail;
 use std::thread;
 use std::thread::Threads;
 use test_fixtures::{Barrier, MOST_TURNS};
-
-/// Opens t with the cells x and y, and claims its two processes.
-const OPEN: &str = "open t 2 100 x y; claim t 0; claim t 1";
-
-/// Each of two processes stores 1 in its own cell, and then loads 0 from the other's.
-const STORE_BUFFERING: &str = "do t 0 sw x 1; do t 0 lw y 0; do t 1 sw y 1; do t 1 lw x 0";
 
 /// Makes the calls of a text, each of which is answered what stands behind its arrow, or `ok`.
 pub(crate) fn play_shared<B: BookNaming, R: Wait + Abort>(
@@ -63,14 +57,22 @@ pub(crate) fn buffered<B: BookNaming, R: Wait + Abort>(
     shared: &SharedBook<B>,
 ) -> Pass<B> {
     let mut pass = entered(rt, shared);
-    play_shared(rt, alloc, shared, &mut pass, OPEN);
     play_shared(rt, alloc, shared, &mut pass, STORE_BUFFERING);
     pass
 }
 
-/// The book of an audit that accounts for all, with so many tallies.
-pub(crate) fn accounted(rt: &impl Abort, audit: Audit, tallies: u32) -> Book {
-    assert!(rt; audit.agreed && audit.totals_agreed && audit.tallies == tallies);
+/// The book, where the audit of its only pass agrees, and there are so many tallies.
+pub(crate) fn audited<B: BookNaming>(
+    rt: &impl Abort,
+    alloc: Global,
+    shared: SharedBook<B>,
+    pass: Pass<B>,
+    tallies: Vec<Tally<B>>,
+    wanted: u32,
+) -> Book {
+    let passes = vec![in alloc; pass].expect(rt, "memory");
+    let audit = shared.audit(passes, tallies);
+    assert!(rt; audit.agreed && audit.totals_agreed && audit.tallies == wanted);
     audit.book
 }
 
@@ -97,13 +99,19 @@ fn work_and_drop<B: BookNaming + Send + Sync, R: Threads + Wait + Abort + Sync>(
 }
 
 /// A pass, after a question has looked at all there was in 91 situations, and then the report of a load that is legal in none.
-fn searched<B: BookNaming, R: Wait + Abort>(
+fn looked_through<B: BookNaming, R: Wait + Abort>(
     rt: &R,
     alloc: Global,
     shared: &SharedBook<B>,
 ) -> Pass<B> {
     let mut pass = entered(rt, shared);
-    play_shared(rt, alloc, shared, &mut pass, OPEN);
+    play_shared(
+        rt,
+        alloc,
+        shared,
+        &mut pass,
+        "open t 2 100 x y; claim t 0; claim t 1",
+    );
     for _ in 0..90 {
         play_shared(rt, alloc, shared, &mut pass, "do t 0 sw x 1");
     }
@@ -130,13 +138,12 @@ fn work_off<B: BookNaming + Send + Sync, R: Threads + Wait + Abort + Sync>(
 {
     let shared = SharedBook::<B>::new(alloc, token);
     let pass = if is_searched {
-        searched(rt, alloc, &shared)
+        looked_through(rt, alloc, &shared)
     } else {
         buffered(rt, alloc, &shared)
     };
     let tallies = work_and_drop(rt, alloc, &shared);
-    let passes = vec![in alloc; pass].expect(rt, "memory");
-    accounted(rt, shared.audit(passes, tallies), 4)
+    audited(rt, alloc, shared, pass, tallies, 4)
 }
 
 #[test]
@@ -199,9 +206,8 @@ fn call_meanwhile<B: BookNaming + Send + Sync, R: Threads + Wait + Abort + Sync>
         },
         || run_workers::<B, SharedBook<B>, Barrier, R>(rt, alloc, &shared, &barrier, 2),
     );
-    let passes = vec![in alloc; pass].expect(rt, "memory");
     let tallies = tallies.expect(rt, "threads and memory");
-    accounted(rt, shared.audit(passes, tallies), 3)
+    audited(rt, alloc, shared, pass, tallies, 3)
 }
 
 #[test]

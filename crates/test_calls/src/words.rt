@@ -10,6 +10,10 @@ use std::str::SplitWhitespace;
 /// The session of the tests.
 pub(crate) const ANNA: u16 = 1;
 
+/// Each of two processes stores 1 in its own cell, and then loads 0 from the other's.
+pub(crate) const STORE_BUFFERING: &str = "open t 2 100 x y; claim t 0; claim t 1;\
+    do t 0 sw x 1; do t 0 lw y 0; do t 1 sw y 1; do t 1 lw x 0";
+
 pub(crate) fn name(rt: &impl Abort, word: &[u8]) -> Name {
     Name::read(word).expect(rt, "a name")
 }

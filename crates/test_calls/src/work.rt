@@ -58,7 +58,7 @@ fn times_of_work(loan: &mut Loan) -> usize {
 }
 
 /// No set is lent for work any more.
-fn assert_worked_off(rt: &impl Abort, book: &mut Book) {
+fn assert_wants_no_work(rt: &impl Abort, book: &mut Book) {
     assert!(rt; !is_ever_lent(book) && !book.may_want_work());
 }
 
@@ -79,7 +79,7 @@ fn work_spares_the_question(rt: HostRuntime) {
     assert_held(&rt, &book, SITUATIONS);
     assert_spared(&rt, &mut book);
     assert_raise_refused(&rt, rt.alloc(), &mut book);
-    assert_worked_off(&rt, &mut book);
+    assert_wants_no_work(&rt, &mut book);
     drop(book);
 }
 
@@ -108,7 +108,7 @@ fn a_raised_budget_wants_work(rt: HostRuntime) {
     let mut loan = lent(&rt, &mut book);
     let _times = times_of_work(&mut loan);
     book.take_back(loan);
-    assert_worked_off(&rt, &mut book);
+    assert_wants_no_work(&rt, &mut book);
     play(&rt, rt.alloc(), &mut book, "raise t 5000");
     assert!(rt; book.may_want_work());
     drop(book);
@@ -143,7 +143,7 @@ fn lose(rt: &impl Abort, alloc: Global, book: &mut Book) {
 fn what_is_explained_wants_no_work(rt: HostRuntime) {
     let mut book = played(&rt, rt.alloc(), OPEN);
     report_stores(&rt, rt.alloc(), &mut book, 1);
-    assert_worked_off(&rt, &mut book);
+    assert_wants_no_work(&rt, &mut book);
     play(&rt, rt.alloc(), &mut book, FORBIDDEN);
     assert!(rt; book.may_want_work());
     lose(&rt, rt.alloc(), &mut book);

@@ -58,8 +58,8 @@ fn work_round(rt: &impl Abort, alloc: Global, book: &mut Book) -> (usize, u64, u
     (taken, delivered.accepted, delivered.known)
 }
 
-/// The book holds what forty rounds left, and no event changes nothing.
-fn assert_worked_off(rt: &impl Abort, book: &Book) {
+/// The book holds what forty rounds left: a run over no event changed nothing.
+fn assert_as_left(rt: &impl Abort, book: &Book) {
     assert!(rt; book.entries().len() == 83 && book.results().taken == 1640);
 }
 
@@ -79,6 +79,6 @@ fn more_tasks_than_are_there(rt: HostRuntime) -> Result<(), Fail> {
         return Err("no memory for no event".into());
     };
     assert!(rt; replies.is_empty());
-    assert_worked_off(&rt, &book);
+    assert_as_left(&rt, &book);
     Ok(())
 }
