@@ -13,7 +13,7 @@ ghost use Rattle.scm_sessions.specs.Replies.{answer_text};
 use crate::calls::{access_of, call_of};
 use crate::codes::{BAD_NUMBER, DONE, NO_EVIDENCE, NO_MEMORY, STILL_OPEN, code_of};
 use crate::evidence::{Piece, count_rows, read_piece};
-use crate::names::number_in;
+use crate::names::number_for;
 use crate::opening::{Cell, declarations};
 use scm_book::{Book, Call, Reply};
 use scm_cells::Name;
@@ -95,7 +95,7 @@ impl Answerer {
         let Some(name) = Name::read(word) else {
             return BAD_NUMBER;
         };
-        let Ok(place) = number_in(&mut self.names, name) else {
+        let Ok(place) = number_for(&mut self.names, name) else {
             return NO_MEMORY;
         };
         *number = place;
@@ -246,7 +246,7 @@ impl Answerer {
             Piece::Number(n) => *number = n,
             Piece::Open => return STILL_OPEN,
             Piece::Cell(name) => {
-                let Ok(place) = number_in(&mut self.names, name) else {
+                let Ok(place) = number_for(&mut self.names, name) else {
                     return NO_MEMORY;
                 };
                 *number = place as u64;

@@ -13,7 +13,7 @@ fn place_of(names: &[Name], name: Name) -> Option<usize>
 }
 
 /// The number of a name among these, where it is put last if it is new.
-pub(crate) fn number_in(names: &mut Vec<Name>, name: Name) -> Result<usize, NoMemory>
+pub(crate) fn number_for(names: &mut Vec<Name>, name: Name) -> Result<usize, NoMemory>
     ensures { GivesNumber names.old.items name result names.new.items }
 {
     if let Some(place) = place_of(names, name) {

@@ -34,7 +34,12 @@ pub(crate) fn narrowest(rt: &impl Abort, alloc: Global, subject: &Subject) -> Fo
 }
 
 /// These lengths of the first two processes, and 0 of the others.
-pub(crate) fn lengths_of(rt: &impl Abort, alloc: Global, procs: usize, first: [u32; 2]) -> Lengths {
+pub(crate) fn first_lengths(
+    rt: &impl Abort,
+    alloc: Global,
+    procs: usize,
+    first: [u32; 2],
+) -> Lengths {
     assert!(rt; 2 <= procs && procs <= MOST_PROCESSES);
     let mut counts = [0; MOST_PROCESSES];
     counts[..2].copy_from_slice(&first);

@@ -1,6 +1,6 @@
 //! Sets whose form grows, by operations that lead to no situation more, and what is asked before and afterwards.
 
-use crate::forms::{Form, is_right, lengths_of, narrowest};
+use crate::forms::{Form, first_lengths, is_right, narrowest};
 use crate::reach::counted;
 use crate::subject::{Subject, cells};
 use crate::traces::read;
@@ -78,12 +78,12 @@ impl Growing {
 
     /// A question about these lengths of the first two processes says what the plain list says.
     fn ask(&mut self, rt: &impl Abort, first: [u32; 2]) {
-        let lengths = lengths_of(rt, self.alloc, self.subject.sequences().procs(), first);
+        let lengths = first_lengths(rt, self.alloc, self.subject.sequences().procs(), first);
         assert!(rt; is_right(rt, self.alloc, &mut self.subject, &lengths));
     }
 
     fn go_back(&mut self, rt: &impl Abort, first: [u32; 2]) {
-        let lengths = lengths_of(rt, self.alloc, self.subject.sequences().procs(), first);
+        let lengths = first_lengths(rt, self.alloc, self.subject.sequences().procs(), first);
         self.subject.go_back(rt, &lengths);
     }
 

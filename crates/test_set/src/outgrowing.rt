@@ -1,6 +1,6 @@
 //! Traces that outgrow the fields of their words, and words that are full to the last bit.
 
-use crate::forms::{Form, is_right, is_right_at_the_end, lengths_of, narrowest};
+use crate::forms::{Form, first_lengths, is_right, is_right_at_the_end, narrowest};
 use crate::growing::add_ballast;
 use crate::subject::{Subject, cells};
 use crate::traces::{read, swap, write};
@@ -164,7 +164,7 @@ fn fill(rt: &impl Abort, alloc: Global, subject: &mut Subject, times: u8, more: 
 
 /// So is one about its first two processes alone.
 fn is_right_of_two(rt: &impl Abort, alloc: Global, subject: &mut Subject, more: u8) -> bool {
-    let lengths = lengths_of(rt, alloc, MOST_PROCESSES, [1, u32::from(more)]);
+    let lengths = first_lengths(rt, alloc, MOST_PROCESSES, [1, u32::from(more)]);
     is_right(rt, alloc, subject, &lengths)
 }
 
