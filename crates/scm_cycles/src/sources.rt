@@ -6,10 +6,8 @@ use scm_clocks::{Clocks, Given};
 use std::alloc::Global;
 use std::ops::Range;
 
-/// How many skews are supposed one after the other before none is, and by which part of the first one they grow.
+/// How many skews are supposed one after the other before none is.
 pub const SKEWS: u64 = 4;
-
-const SKEW_GROWTH: u64 = 5;
 
 /// How much less than two for each doubling the first skew is, and what it is for the shortest traces, in tenths.
 const SKEW_OFFSET: u64 = 30;
@@ -30,13 +28,14 @@ pub struct Guess {
 }
 
 /// What reads may see in a schedule: where no process gets farther ahead of another than by the skews of these numbers, one
-/// after the other, from small ones to large ones; from `SKEWS` on, wherever they are. `None` where nothing was found: where no
-/// schedule exists as far as was seen, after `fuel` steps, and where memory is refused. Nothing is promised of it. What is left
-/// of the fuel stays.
+/// after the other, each larger than the one before by this part of the first one; from `SKEWS` on, wherever they are. `None`
+/// where nothing was found: where no schedule exists as far as was seen, after `fuel` steps, and where memory is refused. Nothing
+/// is promised of it. What is left of the fuel stays.
 pub fn find_sources(
     alloc: Global,
     given: Given,
     skew_numbers: Range<u64>,
+    part: u64,
     fuel: &mut u64,
 ) -> Option<Guess> {
     let mut given = given;
@@ -47,7 +46,7 @@ pub fn find_sources(
             *fuel
         };
         let mut search = Search::new(alloc, Sought::Schedule, given, share)?;
-        let settled = search.settle_under(skew_number);
+        let settled = search.settle_under(skew_number, part);
         *fuel = fuel.saturating_sub(share.saturating_sub(search.fuel));
         if settled.is_some() {
             return search.guess(skew_number);
@@ -80,12 +79,11 @@ impl Search {
     }
 
     // Finds what each read may see, where processes get no farther ahead of each other than by the skew of this number.
-    fn settle_under(&mut self, skew_number: u64) -> Option<()> {
+    fn settle_under(&mut self, skew_number: u64, part: u64) -> Option<()> {
         if skew_number < SKEWS {
             let first = self.first_skew()?;
-            self.suppose_skew(first.saturating_add(
-                first.saturating_mul(skew_number) / SKEW_GROWTH,
-            ))?;
+            let growth = first.saturating_mul(skew_number).checked_div(part)?;
+            self.suppose_skew(first.saturating_add(growth))?;
         }
         self.look_back()?;
         self.touch_all()?;

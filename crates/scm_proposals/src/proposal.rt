@@ -29,6 +29,9 @@ const SITUATIONS_OF_PATIENCE: usize = 8;
 /// How much fuel of the search a visit burns for each process.
 const PRICE_OF_VISIT: u64 = 2;
 
+/// By which part of the first skew those of a whole trace grow.
+const SKEW_PART: u64 = 5;
+
 /// How many places of an earlier schedule are put together anew when all of it can't be kept: at first so many, then
 /// each time so many times more.
 const SHORTEST_TAIL: usize = 64;
@@ -146,7 +149,7 @@ impl Proposer<'_> {
             return Some(schedule);
         }
         *fuel = fuel.saturating_sub(most.saturating_sub(left));
-        let mut guess = find_sources(self.alloc, self.given(0)?, 0..SKEWS + 1, fuel)?;
+        let mut guess = find_sources(self.alloc, self.given(0)?, 0..SKEWS + 1, SKEW_PART, fuel)?;
         guess.clocks = Clocks::new(self.alloc, &guess.given.numbering)?;
         self.complete_by(guess, fuel)
     }

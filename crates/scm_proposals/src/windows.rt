@@ -5,14 +5,20 @@ use crate::proposal::Proposer;
 use scm_clocks::{Given, Part};
 use scm_cycles::{Guess, SKEWS, find_sources};
 
-/// How many operations of each process a window has, at least: so many, and so many for each process. One without a schedule is
-/// followed by one of twice as many that begins earlier.
-const WIDTH: u32 = 96;
+/// How many operations of each process a window has at first: so many for each process, within these bounds. One without a
+/// schedule is followed by one of twice as many that begins earlier.
+const WIDTH_OF_PROCESS: u32 = 14;
 
-const WIDTH_OF_PROCESS: u32 = 2;
+const LEAST_WIDTH: u32 = 64;
+
+const MOST_WIDTH: u32 = 128;
 
 /// How many times as many it has at most.
 const MOST_WIDTHS: u32 = 4;
+
+/// By which part of the first skew those of windows grow: by more than for a whole trace, since it isn't known how far each
+/// process is ahead where a window begins.
+const SKEW_PART: u64 = 3;
 
 /// Of how many sixteenths of a window it is checked what they found, and how many are kept, in the mean of all processes. What
 /// lies between is looked ahead.
@@ -100,7 +106,8 @@ impl Proposer<'_> {
 
     fn least_width(&self) -> Option<u32> {
         let procs = u32::try_from(self.counts.len()).ok()?;
-        Some(WIDTH.saturating_add(procs.saturating_mul(WIDTH_OF_PROCESS)))
+        let width = procs.saturating_mul(WIDTH_OF_PROCESS);
+        Some(width.max(LEAST_WIDTH).min(MOST_WIDTH))
     }
 
     // Adds the schedule of the next window, as far as it is kept. Whether there is one.
@@ -136,7 +143,7 @@ impl Proposer<'_> {
             .saturating_mul(WINDOW_FUEL)
             .min(*fuel);
         let mut left = most;
-        let guess = find_sources(self.alloc, given, skew_number..SKEWS, &mut left);
+        let guess = find_sources(self.alloc, given, skew_number..SKEWS, SKEW_PART, &mut left);
         *fuel = fuel.saturating_sub(most.saturating_sub(left));
         guess
     }
