@@ -150,8 +150,9 @@ impl Book {
 
     /// What is to be done before a call is made. Known schedules of what a question is about are judged here, once: a legal
     /// one is the reply, to be handed to `call_kept` before anything changes. Else a question waits while its set is lent.
-    /// Else, where its answer isn't likely to be near, it is lent, to be searched with no book at hand, with the set that is kept
-    /// for its trace; the start alone stays in its place. With no loan everything is as it was, also where memory is refused.
+    /// Else, where its answer is likely to be near, the plan says so; where not, it is lent, to be searched with no book at hand,
+    /// with the set that is kept for its trace; the start alone stays in its place. With no loan everything is as it was, also
+    /// where memory is refused.
     /// Neither machine nor journal changes.
     pub fn plan(&mut self, call: &Call) -> Plan
         ensures lends { IsLending self.old (call_data call.now) (loan_in result) self.new }

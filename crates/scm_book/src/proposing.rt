@@ -24,7 +24,7 @@ const FEW_SITUATIONS: u64 = 256;
 pub(crate) enum Distance {
     /// The set has it or is near to it.
     Near,
-    /// There are few situations, or the set is full.
+    /// There are few situations, the set is full, memory is refused, or there is no such question.
     Unknown,
     /// There may be many situations, and the set is neither full nor near to the answer.
     Far,
@@ -76,12 +76,12 @@ impl Proposing<'_> {
         reach.holds_whole(self.sequences, self.lengths) || !reach.is_open(self.sequences)
     }
 
-    /// Whether the set has the answer, or a search in it is likely to be short. Nothing rests on it. What goes over the set comes
-    /// last.
-    fn is_near(&self, reach: &Reach) -> bool
+    /// Whether the set has the answer, or a search in it is likely to be short. `None` where memory is refused or the set is
+    /// full. Nothing rests on it. What goes over the set comes last.
+    fn is_near(&self, reach: &Reach) -> Option<bool>
         requires { IsWithin self.now.lengths.now (lengths_of self.now.sequences.now) }
     {
-        self.is_search_short(reach).unwrap_or(true) || self.is_settled(reach)
+        Some(self.is_search_short(reach)? || self.is_settled(reach))
     }
 
     /// What the heuristic proposes.
@@ -156,13 +156,15 @@ impl Proposing<'_> {
         if let Some(schedule) = self.known(reach) {
             return Vec::from_slice(self.alloc, schedule).ok();
         }
-        if self.schedules.has_failed(self.lengths) || self.is_near(reach) {
+        if self.schedules.has_failed(self.lengths) || self.is_near(reach)? {
             return None;
         }
         self.proposed(reach)
     }
 
-    /// A legal schedule of what is lent, to which none is known and whose set hasn't the answer. `None` as above.
+    /// A legal schedule of what is lent, to which none is known and whose set hasn't the answer. `None` where none was legal
+    /// before and nothing changed, for work where a search is likely to be short, where no proposal is legal, and where memory is
+    /// refused.
     pub(crate) fn legal_beside(&self, reach: &Reach) -> Option<Vec<u8>>
         requires { CanJudge self.now.sequences.now self.now.lengths.now reach.now.initials }
         ensures { IfSome result (λ schedule. IsSchedule (cut_to (trace_of reach.now.initials self.now.sequences.now) self.now.lengths.now) (reverse schedule.items)) }
@@ -196,10 +198,10 @@ impl Proposing<'_> {
         if has_few_situations(self.lengths, self.limit) || reach.held() >= self.limit {
             return Distance::Unknown;
         }
-        if self.is_near(reach) {
-            Distance::Near
-        } else {
-            Distance::Far
+        match self.is_near(reach) {
+            Some(true) => Distance::Near,
+            Some(false) => Distance::Far,
+            None => Distance::Unknown,
         }
     }
 

@@ -341,7 +341,7 @@ impl Traces {
         }
     }
 
-    /// The same, where the answer to a question may be near.
+    /// Makes it. Where the answer to a question `is_near`, no schedule is looked for.
     fn make(&mut self, session: u16, call: &Call, is_near: bool, steps: &mut Steps) -> Reply
         requires room { HasRoom (machine_in self.old) (call_data call.now) steps.old }
         ensures step { IsStepOrNoMemory (machine_in self.old) session (call_data call.now) (reply_data result) (machine_in self.new) }

@@ -208,7 +208,7 @@ fn nothing_is_lent_where_the_answer_is_there(rt: HostRuntime) {
     drop(book);
 }
 
-/// The reply that the plan of a call carries.
+/// What the plan of a call carries of its answer.
 fn carried(book: &mut Book, call: &Call) -> Outlook
     ensures { IsKnown book.new.machine (call_data call.now) (known_reply result) }
 {
