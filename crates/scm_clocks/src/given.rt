@@ -14,7 +14,7 @@ pub struct Given {
     pub writes: Writes,
     pub writers: Writers,
     /// How many operations each process has in the whole trace.
-    pub whole: Vec<u32>,
+    pub trace_lengths: Vec<u32>,
 }
 
 impl Given {
@@ -25,16 +25,16 @@ impl Given {
         let cells = u32::try_from(part.contents.len()).ok()?;
         let writes = Writes::new(alloc, cells, &numbering, &values)?;
         let writers = Writers::new(alloc, &numbering, &values)?;
-        let mut whole = Vec::new(alloc);
-        for count in part.whole {
-            whole.push(*count).ok()?;
+        let mut trace_lengths = Vec::new(alloc);
+        for count in part.trace_lengths {
+            trace_lengths.push(*count).ok()?;
         }
         Some(Given {
             numbering,
             values,
             writes,
             writers,
-            whole,
+            trace_lengths,
         })
     }
 }

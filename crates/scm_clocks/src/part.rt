@@ -11,7 +11,7 @@ pub struct Part<'a> {
     pub ends: &'a [u32],
     pub checked: u32,
     /// How many operations each process has in the whole trace.
-    pub whole: &'a [u32],
+    pub trace_lengths: &'a [u32],
 }
 
 impl Part<'_> {

@@ -75,8 +75,8 @@ impl Search {
         for _ in 0..self.fuel {
             self.burn(1)?;
             self.propagate()?;
-            if let Some(closing) = self.closing {
-                let conflict = self.explain(closing)?;
+            if let Some(contradiction) = self.contradiction {
+                let conflict = self.explain(contradiction)?;
                 if conflict.level == 0 {
                     return Some(Ending::Contradiction(conflict));
                 }
@@ -105,7 +105,7 @@ impl Search {
     // Draws all that follows, until a cycle is closed or nothing is left to be looked at.
     fn propagate(&mut self) -> Option<()> {
         for _ in 0..self.fuel {
-            if self.closing.is_some() {
+            if self.contradiction.is_some() {
                 return Some(());
             }
             match self.waiting.next() {
@@ -128,7 +128,7 @@ impl Search {
         self.burn(1)?;
         let cell = self.numbering.cell(read)?;
         self.visit(read, cell, value)?;
-        if self.closing.is_none() {
+        if self.contradiction.is_none() {
             self.review_all(read)?;
         }
         Some(())

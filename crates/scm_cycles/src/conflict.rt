@@ -20,7 +20,7 @@ pub(crate) struct KnownOrder {
 /// Without suppositions the level is 0, and nothing else is filled in.
 #[derive(Drop)]
 pub(crate) struct Conflict {
-    pub(crate) closing: u32,
+    pub(crate) contradiction: u32,
     pub(crate) level: u32,
     pub(crate) orders: Vec<KnownOrder>,
     pub(crate) steps: Vec<u32>,
@@ -29,10 +29,10 @@ pub(crate) struct Conflict {
 }
 
 impl Conflict {
-    fn new(alloc: Global, closing: u32, level: u32) -> Option<Conflict> {
-        let count = closing.checked_add(1)?;
+    fn new(alloc: Global, contradiction: u32, level: u32) -> Option<Conflict> {
+        let count = contradiction.checked_add(1)?;
         Some(Conflict {
-            closing,
+            contradiction,
             level,
             orders: Vec::new(alloc),
             steps: Vec::new(alloc),
@@ -57,13 +57,13 @@ impl Conflict {
 
 impl Search {
     /// What contradicts itself by the step that closed a cycle.
-    pub(crate) fn explain(&mut self, closing: u32) -> Option<Conflict> {
-        let needs = self.closing_needs(closing)?;
+    pub(crate) fn explain(&mut self, contradiction: u32) -> Option<Conflict> {
+        let needs = self.contradiction_needs(contradiction)?;
         let mut level = 0;
         for need in &needs {
             level = level.max(self.need_level(*need)?);
         }
-        let mut conflict = Conflict::new(self.alloc, closing, level)?;
+        let mut conflict = Conflict::new(self.alloc, contradiction, level)?;
         if level > 0 {
             self.add_needs_of(&mut conflict, &needs)?;
             self.resolve(&mut conflict)?;
@@ -74,16 +74,16 @@ impl Search {
 
     /// What the contradiction of a step that closed a cycle follows from. A step just before it that a clause gave is no
     /// more than a part of it.
-    pub(crate) fn closing_needs(&self, closing: u32) -> Option<Vec<Need>> {
+    pub(crate) fn contradiction_needs(&self, contradiction: u32) -> Option<Vec<Need>> {
         let mut needs = Vec::new(self.alloc);
-        for at in self.steps.needs(closing)? {
+        for at in self.steps.needs(contradiction)? {
             let need = self.steps.need(at)?;
-            match self.clashing(closing, need)? {
+            match self.clashing(contradiction, need)? {
                 Some(id) => self.copy_needs(&mut needs, id)?,
                 None => needs.push(need).ok()?,
             }
         }
-        let Claim { from, to, .. } = self.steps.get(closing)?.claim;
+        let Claim { from, to, .. } = self.steps.get(contradiction)?.claim;
         if from != to {
             let (from, to) = (to, from);
             needs.push(Need::Order { from, to }).ok()?;
@@ -91,11 +91,11 @@ impl Search {
         Some(needs)
     }
 
-    fn clashing(&self, closing: u32, need: Need) -> Option<Option<u32>> {
+    fn clashing(&self, contradiction: u32, need: Need) -> Option<Option<u32>> {
         let Need::Step(id) = need else {
             return Some(None);
         };
-        let is_part = id.checked_add(1)? == closing
+        let is_part = id.checked_add(1)? == contradiction
             && matches!(self.steps.get(id)?.why, Why::Clause(_));
         Some(if is_part { Some(id) } else { None })
     }
@@ -109,8 +109,8 @@ impl Search {
 
     // Back to the first step of the level that all of the contradiction goes through.
     fn resolve(&mut self, conflict: &mut Conflict) -> Option<()> {
-        for back in 1..=conflict.closing {
-            let id = conflict.closing.checked_sub(back)?;
+        for back in 1..=conflict.contradiction {
+            let id = conflict.contradiction.checked_sub(back)?;
             if !*conflict.is_seen.get(id as usize)? || self.steps.get(id)?.level < conflict.level {
                 continue;
             }

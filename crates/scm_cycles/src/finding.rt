@@ -34,7 +34,7 @@ pub fn find_cycle(
         made: none.as_slice(),
         ends: lengths.counts(),
         checked: u32::MAX,
-        whole: lengths.counts(),
+        trace_lengths: lengths.counts(),
     };
     let given = Given::new(alloc, &part)?;
     let mut search = Search::new(alloc, Sought::Refutation, given, fuel)?;
@@ -45,7 +45,7 @@ pub fn find_cycle(
 // Without cases first, since what is found so is short.
 fn refute(search: &mut Search) -> Option<Conflict> {
     match search.run()? {
-        Some(closing) => search.explain(closing),
+        Some(contradiction) => search.explain(contradiction),
         None => refute_by_cases(search),
     }
 }

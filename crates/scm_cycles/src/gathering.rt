@@ -25,7 +25,7 @@ struct Gathering<'a> {
 /// The lines that end with an operation before itself, of all that the contradiction needs.
 pub(crate) fn gather(alloc: Global, search: &Search, conflict: &Conflict) -> Option<Derivation> {
     let mut gathering = Gathering::new(alloc, search, conflict)?;
-    gathering.need_closing()?;
+    gathering.need_contradiction()?;
     gathering.need_all()?;
     gathering.write_all()?;
     gathering.close()?;
@@ -38,7 +38,7 @@ pub(crate) fn gather(alloc: Global, search: &Search, conflict: &Conflict) -> Opt
 pub(crate) fn draft(alloc: Global, search: &Search, conflict: &Conflict) -> Option<Derivation> {
     let mut gathering = Gathering::new(alloc, search, conflict)?;
     gathering.suppose()?;
-    gathering.need_closing()?;
+    gathering.need_contradiction()?;
     gathering.need_steps()?;
     gathering.write_steps()?;
     gathering.close()?;
@@ -48,7 +48,7 @@ pub(crate) fn draft(alloc: Global, search: &Search, conflict: &Conflict) -> Opti
 
 impl<'a> Gathering<'a> {
     fn new(alloc: Global, search: &'a Search, conflict: &'a Conflict) -> Option<Gathering<'a>> {
-        let count = conflict.closing.checked_add(1)? as usize;
+        let count = conflict.contradiction.checked_add(1)? as usize;
         let clauses = search.clauses.len()? as usize;
         Some(Gathering {
             search,
@@ -67,7 +67,7 @@ impl<'a> Gathering<'a> {
 
     // The level up to which a step's needs are steps and not stretches.
     fn level_of(&self, id: u32) -> Option<u32> {
-        if id == self.conflict.closing {
+        if id == self.conflict.contradiction {
             return Some(self.conflict.level);
         }
         Some(self.search.steps.get(id)?.level.min(self.conflict.level))
@@ -99,10 +99,10 @@ impl<'a> Gathering<'a> {
         Some(())
     }
 
-    fn need_closing(&mut self) -> Option<()> {
-        let closing = self.conflict.closing;
-        let Claim { from, to, .. } = self.search.steps.get(closing)?.claim;
-        *self.is_needed.get_mut(closing as usize)? = true;
+    fn need_contradiction(&mut self) -> Option<()> {
+        let contradiction = self.conflict.contradiction;
+        let Claim { from, to, .. } = self.search.steps.get(contradiction)?.claim;
+        *self.is_needed.get_mut(contradiction as usize)? = true;
         if from != to {
             self.need_way(to, from, self.conflict.level)?;
         }
@@ -120,8 +120,8 @@ impl<'a> Gathering<'a> {
 
     // Marks the steps that are needed, from the newest on.
     fn need_steps(&mut self) -> Option<()> {
-        for back in 0..=self.conflict.closing {
-            self.need_all_of(self.conflict.closing.checked_sub(back)?)?;
+        for back in 0..=self.conflict.contradiction {
+            self.need_all_of(self.conflict.contradiction.checked_sub(back)?)?;
         }
         Some(())
     }
@@ -129,7 +129,7 @@ impl<'a> Gathering<'a> {
     // Marks the steps and the clauses that are needed, from the newest on.
     fn need_all(&mut self) -> Option<()> {
         let mut clauses = self.search.clauses.len()?;
-        let count = self.conflict.closing.checked_add(1)?;
+        let count = self.conflict.contradiction.checked_add(1)?;
         for back in 0..=count {
             let left = count.checked_sub(back)?;
             clauses = self.need_blocks(clauses, left)?;
@@ -191,7 +191,7 @@ impl<'a> Gathering<'a> {
 
     // Writes the steps that are needed, from the oldest on.
     fn write_steps(&mut self) -> Option<()> {
-        for id in 0..=self.conflict.closing {
+        for id in 0..=self.conflict.contradiction {
             self.write(id)?;
         }
         Some(())
@@ -200,7 +200,7 @@ impl<'a> Gathering<'a> {
     // Writes the blocks and the steps that are needed, from the oldest on.
     fn write_all(&mut self) -> Option<()> {
         let mut clauses = 0;
-        for id in 0..=self.conflict.closing {
+        for id in 0..=self.conflict.contradiction {
             clauses = self.write_blocks(clauses, id)?;
             self.write(id)?;
         }
@@ -360,10 +360,10 @@ impl<'a> Gathering<'a> {
         self.lines.keep(key, fact, Rule::Hidden { by }, &hints)
     }
 
-    // Joins the closing step and the way back from its end to its beginning.
+    // Joins the step that contradicts and the way back from its end to its beginning.
     fn close(&mut self) -> Option<()> {
-        let closing = self.conflict.closing;
-        let Claim { from, to, .. } = self.search.steps.get(closing)?.claim;
+        let contradiction = self.conflict.contradiction;
+        let Claim { from, to, .. } = self.search.steps.get(contradiction)?.claim;
         if from == to {
             return Some(());
         }
@@ -372,7 +372,7 @@ impl<'a> Gathering<'a> {
             return Some(());
         }
         let mut hints = Vec::new(self.search.alloc);
-        hints.push(self.written.line(closing)?).ok()?;
+        hints.push(self.written.line(contradiction)?).ok()?;
         for hint in &way.hints {
             hints.push(*hint).ok()?;
         }

@@ -15,8 +15,8 @@ impl Search {
         for _ in 0..self.fuel {
             let before = self.steps.len()?;
             self.visit_all()?;
-            if self.closing.is_some() || self.steps.len()? == before {
-                return Some(self.closing);
+            if self.contradiction.is_some() || self.steps.len()? == before {
+                return Some(self.contradiction);
             }
         }
         None
@@ -29,7 +29,7 @@ impl Search {
                 let cell = self.numbering.cell(x)?;
                 self.visit(x, cell, value)?;
             }
-            if self.closing.is_some() {
+            if self.contradiction.is_some() {
                 break;
             }
         }
@@ -41,7 +41,7 @@ impl Search {
         if self.read_facts.source(read)?.is_none() {
             self.visit_open(read, cell, value)?;
         }
-        if self.closing.is_none()
+        if self.contradiction.is_none()
             && let Some(source) = self.read_facts.source(read)?
         {
             let news = self.waiting.take_news(read)?;
@@ -110,13 +110,13 @@ impl Search {
     // The read comes after what all that is left comes after, and before the writes that all of it comes before.
     fn draw_around(&mut self, view: &ReadView) -> Option<()> {
         for process in 0..self.procs {
-            if self.closing.is_some() {
+            if self.contradiction.is_some() {
                 break;
             }
             if !view.is_first_left {
                 self.draw_after_all(view, process)?;
             }
-            if self.closing.is_none() {
+            if self.contradiction.is_none() {
                 self.draw_before_all(view, process)?;
             }
         }
@@ -172,7 +172,7 @@ impl Search {
     // Draws what follows from first contents that are seen.
     fn follow_first(&mut self, read: u32, cell: u32, source: u32) -> Option<()> {
         for process in 0..self.procs {
-            if self.closing.is_none()
+            if self.contradiction.is_none()
                 && let Some(to) = self.write_from(read, cell, process, 0)
                 && !self.is_before(read, to)?
             {
@@ -193,10 +193,10 @@ impl Search {
         news: News,
     ) -> Option<()> {
         for process in 0..self.procs {
-            if self.closing.is_none() && news.has(process) {
+            if self.contradiction.is_none() && news.has(process) {
                 self.draw_after_source(read, cell, source, write, process)?;
             }
-            if self.closing.is_none() && news.is_after_source() {
+            if self.contradiction.is_none() && news.is_after_source() {
                 self.draw_before_next(read, cell, source, write, process)?;
             }
         }

@@ -40,7 +40,7 @@ pub(crate) struct Search {
     pub(crate) writes: Writes,
     pub(crate) writers: Writers,
     /// How many operations each process has in the whole trace.
-    pub(crate) whole: Vec<u32>,
+    pub(crate) trace_lengths: Vec<u32>,
     pub(crate) steps: DrawnSteps,
     pub(crate) procs: u32,
     pub(crate) ops: u32,
@@ -62,8 +62,8 @@ pub(crate) struct Search {
     pub(crate) rises: Rises,
     /// What has new clocks to bring to those after it.
     pub(crate) flags: Flags,
-    /// The step that closed a cycle, if one did.
-    pub(crate) closing: Option<u32>,
+    /// The step that contradicts, if one does.
+    pub(crate) contradiction: Option<u32>,
     pub(crate) fuel: u64,
     most_changes: u64,
 }
@@ -115,7 +115,7 @@ impl Search {
             values,
             writes,
             writers,
-            whole,
+            trace_lengths,
         } = given;
         Some(Search {
             alloc,
@@ -124,7 +124,7 @@ impl Search {
             values,
             writes,
             writers,
-            whole,
+            trace_lengths,
             steps: workspace.steps,
             procs: workspace.procs,
             ops: workspace.ops,
@@ -140,7 +140,7 @@ impl Search {
             candidates: None,
             rises: workspace.rises,
             flags: workspace.flags,
-            closing: None,
+            contradiction: None,
             fuel: workspace.fuel,
             most_changes: workspace.most_changes,
         })
@@ -153,7 +153,7 @@ impl Search {
             values,
             writes,
             writers,
-            whole,
+            trace_lengths,
             clocks,
             ..
         } = self;
@@ -162,7 +162,7 @@ impl Search {
             values,
             writes,
             writers,
-            whole,
+            trace_lengths,
         };
         (given, clocks)
     }
@@ -262,7 +262,7 @@ impl Search {
         let Claim { from, to, .. } = claim;
         let id = self.steps.add(claim, why, self.trail.level(), needs)?;
         if from == to || self.is_before(to, from)? {
-            self.closing = Some(id);
+            self.contradiction = Some(id);
             return Some(id);
         }
         self.touch_before(from, to)?;
@@ -350,7 +350,8 @@ impl Search {
         Some(())
     }
 
-    // Where it is kept what comes after operations, the first so many of the process are told that this place does.
+    // Where it is kept from which places on operations come after others: those at the place come after the first `count` of the
+    // process.
     fn lower_afters(&mut self, spot: (u32, u32), process: u32, count: u32) -> Option<()> {
         if let Some(afters) = &mut self.afters {
             let lowered = lower(afters, &self.numbering, spot, process, count)?;

@@ -29,9 +29,9 @@ impl Search {
     // At least so many operations of each process come before `x`. What comes after it has more before it already.
     fn suppose_at(&mut self, x: u32, tenths: u64, id: u32) -> Option<()> {
         let (owner, place) = self.numbering.spot(x)?;
-        let length = *self.whole.get(owner as usize)?;
+        let length = *self.trace_lengths.get(owner as usize)?;
         for process in 0..self.procs {
-            let other = *self.whole.get(process as usize)?;
+            let other = *self.trace_lengths.get(process as usize)?;
             let count = least_count(place, length, other, tenths)?.min(
                 self.numbering.count(process)?,
             );

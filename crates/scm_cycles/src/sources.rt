@@ -28,14 +28,14 @@ pub struct Guess {
 }
 
 /// What reads may see in a schedule: where no process gets farther ahead of another than by the skews of these numbers, one
-/// after the other, each larger than the one before by this part of the first one; from `SKEWS` on, wherever they are. `None`
+/// after the other, each larger than the one before by the first one over `divisor`; from `SKEWS` on, wherever they are. `None`
 /// where nothing was found: where no schedule exists as far as was seen, after `fuel` steps, and where memory is refused. Nothing
 /// is promised of it. What is left of the fuel stays.
 pub fn find_sources(
     alloc: Global,
     given: Given,
     skew_numbers: Range<u64>,
-    part: u64,
+    divisor: u64,
     fuel: &mut u64,
 ) -> Option<Guess> {
     let mut given = given;
@@ -46,7 +46,7 @@ pub fn find_sources(
             *fuel
         };
         let mut search = Search::new(alloc, Sought::Schedule, given, share)?;
-        let settled = search.settle_under(skew_number, part);
+        let settled = search.settle_under(skew_number, divisor);
         *fuel = fuel.saturating_sub(share.saturating_sub(search.fuel));
         if settled.is_some() {
             return search.guess(skew_number);
@@ -79,10 +79,10 @@ impl Search {
     }
 
     // Finds what each read may see, where processes get no farther ahead of each other than by the skew of this number.
-    fn settle_under(&mut self, skew_number: u64, part: u64) -> Option<()> {
+    fn settle_under(&mut self, skew_number: u64, divisor: u64) -> Option<()> {
         if skew_number < SKEWS {
             let first = self.first_skew()?;
-            let growth = first.saturating_mul(skew_number).checked_div(part)?;
+            let growth = first.saturating_mul(skew_number).checked_div(divisor)?;
             self.suppose_skew(first.saturating_add(growth))?;
         }
         self.look_back()?;

@@ -60,7 +60,7 @@ impl Search {
 
     /// Takes back all suppositions but the first so many.
     pub(crate) fn undo_to(&mut self, level: u32) -> Option<()> {
-        self.closing = None;
+        self.contradiction = None;
         self.flags.clear();
         self.waiting.clear();
         for _ in level..self.trail.level() {

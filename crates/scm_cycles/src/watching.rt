@@ -6,7 +6,7 @@ impl Search {
     pub(crate) fn review_all(&mut self, x: u32) -> Option<()> {
         let mut at = 0usize;
         for _ in 0..self.clauses.count(x)? {
-            if self.closing.is_some() {
+            if self.contradiction.is_some() {
                 break;
             }
             let k = self.clauses.watcher(x, at)?;

@@ -116,7 +116,7 @@ impl Proposer<'_> {
             made: beginning.counts.as_slice(),
             ends,
             checked,
-            whole: self.counts,
+            trace_lengths: self.counts,
         }
     }
 
