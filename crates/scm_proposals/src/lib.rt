@@ -8,6 +8,7 @@ mod ending;
 mod facts;
 mod fuel;
 mod guided_walk;
+mod made_operations;
 mod memory;
 mod numbers;
 mod order;
@@ -16,6 +17,7 @@ mod rank;
 mod remaining;
 mod saturation;
 mod sources;
+mod turns;
 mod windows;
 
 pub use beginning::Beginning;

@@ -120,8 +120,8 @@ impl Proposer<'_> {
         }
     }
 
-    // All operations after so many places of the earlier schedule.
-    fn given(&self, kept: usize) -> Option<Given> {
+    /// All operations after so many places of the earlier schedule.
+    pub(crate) fn given(&self, kept: usize) -> Option<Given> {
         let beginning = self.beginning(kept)?;
         Given::new(self.alloc, &self.part(&beginning, self.counts, u32::MAX))
     }
@@ -132,8 +132,8 @@ impl Proposer<'_> {
         self.complete(kept, &mut walk, fuel)
     }
 
-    /// A schedule that is made from nothing: by a walk, or else window by window, or else by a walk in which each read has the
-    /// source that a search chose.
+    /// A schedule that is made from nothing: by a walk, or else in long turns, or else window by window, or else by a walk in
+    /// which each read has the source that a search chose.
     fn complete_from_nothing(&self, fuel: &mut u64) -> Option<Vec<u8>> {
         let mut walk = self.walk(0)?;
         if let Some(schedule) = self.complete(0, &mut walk, fuel) {
@@ -143,6 +143,9 @@ impl Proposer<'_> {
             return None;
         }
         drop(walk);
+        if let Some(schedule) = self.complete_by_turns(fuel) {
+            return Some(schedule);
+        }
         let most = fuel_of_windows(self.lengths, self.initials.len(), *fuel);
         let mut left = most;
         if let Some(schedule) = self.complete_by_windows(&mut left) {

@@ -1,0 +1,248 @@
+//! A schedule of long turns: one process makes many operations, then another one does.
+use crate::made_operations::{Access, MadeOperations, accesses, copy};
+use crate::proposal::Proposer;
+use scm_clocks::Given;
+use std::alloc::Global;
+
+/// How many beginnings are kept of each number of turns.
+const KEPT: usize = 128;
+
+/// How many operations a turn has at least, in the mean, once there are so many turns.
+const LEAST_TURN: u32 = 32;
+
+const FIRST_TURNS: u32 = 3;
+
+/// How many operations are looked at for each unit of fuel that is burnt.
+const STEPS_OF_FUEL: u64 = 8;
+
+/// The operations that some turns make, in this order. The last turn is of this process.
+#[derive(Drop)]
+struct Turns {
+    schedule: Vec<u8>,
+    made: MadeOperations,
+    last: Option<u32>,
+}
+
+/// One turn more: after which beginning, of which process, and of how many operations.
+#[derive(Clone, Copy)]
+struct NextTurn {
+    beginning: usize,
+    process: u32,
+    len: u32,
+}
+
+/// The operations of each process, how many there are, and what is left to be burnt, in steps.
+#[derive(Drop)]
+struct TurnSearch {
+    alloc: Global,
+    accesses: Vec<Vec<Access>>,
+    procs: u32,
+    ops: u32,
+    steps: u64,
+}
+
+impl Proposer<'_> {
+    /// A schedule of long turns, where there are some at the beginning.
+    pub(crate) fn complete_by_turns(&self, fuel: &mut u64) -> Option<Vec<u8>> {
+        let given = self.given(0)?;
+        let mut search = TurnSearch {
+            alloc: self.alloc,
+            accesses: accesses(self.alloc, &given)?,
+            procs: given.numbering.procs()?,
+            ops: given.numbering.len()?,
+            steps: fuel.saturating_mul(STEPS_OF_FUEL),
+        };
+        let schedule = search.find(&given);
+        *fuel = search.steps / STEPS_OF_FUEL;
+        schedule
+    }
+}
+
+// Whether the same is made, in any order, by one of these.
+fn are_made(kept: &[Turns], turns: &Turns) -> bool {
+    kept.iter()
+        .any(|other: &Turns| other.made.is_same(&turns.made))
+}
+
+impl TurnSearch {
+    // Adds turns to the best beginnings, until one has all operations or turns get short.
+    fn find(&mut self, given: &Given) -> Option<Vec<u8>> {
+        let mut kept = Vec::new(self.alloc);
+        kept.push(self.nothing(given)?).ok()?;
+        for number in 1..=self.ops {
+            kept = self.add_turns(&kept)?;
+            let most = longest(&kept)?;
+            let made = u32::try_from(most.schedule.len()).ok()?;
+            if made == self.ops {
+                return copy(self.alloc, most.schedule.as_slice());
+            }
+            if number >= FIRST_TURNS && made < number.saturating_mul(LEAST_TURN) {
+                return None;
+            }
+        }
+        None
+    }
+
+    fn nothing(&self, given: &Given) -> Option<Turns> {
+        Some(Turns {
+            schedule: Vec::new(self.alloc),
+            made: MadeOperations::nothing(self.alloc, self.procs, given)?,
+            last: None,
+        })
+    }
+
+    // The best of all that have one turn more.
+    fn add_turns(&mut self, beginnings: &[Turns]) -> Option<Vec<Turns>> {
+        self.burn(u64::from(self.ops))?;
+        let mut next = Vec::new(self.alloc);
+        for _ in 0..=self.ops {
+            next.push(Vec::new(self.alloc)).ok()?;
+        }
+        for (number, turns) in beginnings.iter().enumerate() {
+            for process in 0..self.procs {
+                if turns.last != Some(process) {
+                    self.rate(&mut next, number, turns, process)?;
+                }
+            }
+        }
+        self.keep_best(beginnings, &next)
+    }
+
+    // Notes each turn of a process that may be added by how many operations it makes together with a turn of another after it.
+    // It ends before a write, or where no more can be made.
+    fn rate(
+        &mut self,
+        next: &mut [Vec<NextTurn>],
+        beginning: usize,
+        turns: &Turns,
+        process: u32,
+    ) -> Option<()> {
+        let most = self.run(&turns.made, process)?;
+        let before = u32::try_from(turns.schedule.len()).ok()?;
+        self.burn(turns.made.size())?;
+        let mut made = turns.made.copy(self.alloc)?;
+        for len in 1..=most {
+            made.make(process, self.next(&made, process)?)?;
+            if len < most && self.next(&made, process)?.is_read {
+                continue;
+            }
+            let more = self.longest_run(&made, process)?;
+            let rating = before.checked_add(len)?.checked_add(more)?;
+            let turn = NextTurn {
+                beginning,
+                process,
+                len,
+            };
+            next.get_mut(rating as usize)?.push(turn).ok()?;
+        }
+        Some(())
+    }
+
+    // How many operations a process can make one after the other.
+    fn run(&mut self, made: &MadeOperations, process: u32) -> Option<u32> {
+        let from = *made.counts.get(process as usize)?;
+        let left = self.accesses.get(process as usize)?.get(from as usize..)?;
+        let mut len: u32 = 0;
+        for access in left {
+            let fits = if access.earlier > from {
+                access.follows
+            } else {
+                made.finds(*access)?
+            };
+            if !fits {
+                break;
+            }
+            len = len.checked_add(1)?;
+        }
+        self.burn(u64::from(len).saturating_add(1))?;
+        Some(len)
+    }
+
+    // How many operations some other process can make.
+    fn longest_run(&mut self, made: &MadeOperations, process: u32) -> Option<u32> {
+        let mut most = 0;
+        for other in 0..self.procs {
+            if other != process {
+                most = most.max(self.run(made, other)?);
+            }
+        }
+        Some(most)
+    }
+
+    fn next(&self, made: &MadeOperations, process: u32) -> Option<Access> {
+        let count = *made.counts.get(process as usize)?;
+        self.accesses
+            .get(process as usize)?
+            .get(count as usize)
+            .copied()
+    }
+
+    // Of those that are the same but for their order one is kept.
+    fn keep_best(&mut self, beginnings: &[Turns], next: &[Vec<NextTurn>]) -> Option<Vec<Turns>> {
+        let mut kept = Vec::new(self.alloc);
+        for turn in next.iter().rev().flat_map(|turns| turns.iter()) {
+            if kept.len() >= KEPT {
+                break;
+            }
+            let turns = self.with(beginnings.get(turn.beginning)?, *turn)?;
+            if !are_made(kept.as_slice(), &turns) {
+                kept.push(turns).ok()?;
+            }
+        }
+        Some(kept)
+    }
+
+    // With a turn more, and all reads that can be made then.
+    fn with(&mut self, turns: &Turns, turn: NextTurn) -> Option<Turns> {
+        self.burn(turns.schedule.len() as u64)?;
+        let mut schedule = copy(self.alloc, turns.schedule.as_slice())?;
+        let mut made = turns.made.copy(self.alloc)?;
+        for _ in 0..turn.len {
+            self.make(&mut schedule, &mut made, turn.process)?;
+        }
+        for process in 0..self.procs {
+            self.make_reads(&mut schedule, &mut made, process)?;
+        }
+        Some(Turns {
+            schedule,
+            made,
+            last: Some(turn.process),
+        })
+    }
+
+    fn make(&self, schedule: &mut Vec<u8>, made: &mut MadeOperations, process: u32) -> Option<()> {
+        let access = self.next(made, process)?;
+        schedule.push(u8::try_from(process).ok()?).ok()?;
+        made.make(process, access)
+    }
+
+    fn make_reads(
+        &mut self,
+        schedule: &mut Vec<u8>,
+        made: &mut MadeOperations,
+        process: u32,
+    ) -> Option<()> {
+        for _ in 0..self.run(made, process)? {
+            if !made.is_kept_by(self.next(made, process)?)? {
+                break;
+            }
+            self.make(schedule, made, process)?;
+        }
+        Some(())
+    }
+
+    fn burn(&mut self, steps: u64) -> Option<()> {
+        self.steps = self.steps.checked_sub(steps)?;
+        Some(())
+    }
+}
+
+fn longest(kept: &[Turns]) -> Option<&Turns> {
+    let mut best = kept.first()?;
+    for turns in kept {
+        if turns.schedule.len() > best.schedule.len() {
+            best = turns;
+        }
+    }
+    Some(best)
+}
