@@ -7,7 +7,7 @@ use Rattle.std.proofs.Math.Nat.{pow-suc, mul_comm, mod-eq_of_lt}
 use Rattle.std.proofs.lemmas.Nat.{and_le_l, or_lt, xor_lt, pow_pos}
 use Rattle.std.proofs.lemmas.Nat.Bits.{bit_at_and, bit_at_or, bit_at_xor}
 use Rattle.scm_cells.specs.declared.width.Width.{Width}
-use Rattle.scm_cells.specs.Widths.{bits_of, values_of}
+use Rattle.scm_cells.specs.Numbers.{bits_of, values_of}
 use Rattle.scm_amo.specs.declared.kind.AmoKind.{AmoKind}
 use Rattle.scm_amo.specs.declared.kind.AmoKind.TheVariants.{And, Or, Xor}
 use Rattle.scm_amo.specs.Results.{number_of_bits, amo_result}

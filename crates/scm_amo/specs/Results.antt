@@ -3,7 +3,7 @@
 use Rattle.std.specs.Prelude.{ℕ, zero, suc, ◌+◌, ◌*◌, ◌%◌, ◌^◌, min, max, nat_lt, if◌then◌else◌, ℤ, pos, ◌-ℤ◌, int_lt}
 use Rattle.std.specs.Int.{bit_at}
 use Rattle.scm_cells.specs.declared.width.Width.{Width}
-use Rattle.scm_cells.specs.Widths.{bits_of, values_of}
+use Rattle.scm_cells.specs.Numbers.{bits_of, values_of}
 use Rattle.scm_amo.specs.declared.kind.AmoKind.{AmoKind}
 use Rattle.scm_amo.specs.declared.kind.AmoKind.TheVariants.{Swap, Add, And, Or, Xor, Max, Min, MaxU, MinU}
 

@@ -1,6 +1,6 @@
 //! What AMOs store.
 ghost use Rattle.std.specs.Prelude.{◌≡◌, ◌<◌};
-ghost use Rattle.scm_cells.specs.Widths.{values_of};
+ghost use Rattle.scm_cells.specs.Numbers.{values_of};
 ghost use Rattle.scm_amo.specs.Results.{amo_result};
 
 use crate::AmoKind;

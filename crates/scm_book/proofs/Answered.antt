@@ -2,10 +2,9 @@
 use Rattle.std.proofs.Common.{◌≡◌, ◌≤◌, ℕ, Bool, true, false, cond, List, [], ◌∷◌, ◌++◌, length, Option, None, Some, MatchOption, refl, sym, ap, ◌∙◌, subst, arith}
 use Rattle.std.proofs.lemmas.List.{length-append}
 use Rattle.scm_expand.specs.Outcomes.{Expanded}
-use Rattle.scm_book.specs.Calls.{ReplyData, CallData}
-use Rattle.scm_book.specs.Runs.{Answered, IsRun}
-use Rattle.scm_book.specs.Journal.{BookState, makes_entry, IsUnchanged}
-use Rattle.scm_book.specs.Loans.{Loaned, IsLent, IsLentForWork}
+use Rattle.scm_book.specs.Machine.{ReplyData, CallData}
+use Rattle.scm_book.specs.Journal.{Answered, IsRun, BookState, makes_entry, IsUnchanged}
+use Rattle.scm_book.specs.inner.Loans.{Loaned, IsLent, IsLentForWork}
 use Rattle.scm_book.specs.Events.{EventData, call_by, takes, delivers, lends, lends_work, takes_back, IsAnswered, with_reply, AnswersAll, steps_of}
 
 with_reply-append : (reply : Option ReplyData) (replies more : List ReplyData) → with_reply reply replies ++ more ≡ with_reply reply (replies ++ more)

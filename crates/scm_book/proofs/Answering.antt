@@ -5,13 +5,10 @@ use Rattle.std.specs.Option.{option_or, option_map_or}
 use Rattle.scm_sequences.specs.declared.refusal.Refusal.{Refusal}
 use Rattle.scm_sequences.specs.declared.refusal.Refusal.TheVariants.{NoMemory, NoSuchTrace, NameTaken, TooManyTraces}
 use Rattle.scm_sequences.specs.declared.limits.TheConstants.{MOST_TRACES}
-use Rattle.scm_sequences.specs.Refusals.{Refuses}
+use Rattle.scm_sequences.specs.Sequences.{Refuses}
 use Rattle.scm_cells.specs.CellLists.{Declared}
 use Rattle.scm_book.specs.declared.call.Decl.{Decl}
-use Rattle.scm_book.specs.Calls.{opens, ReplyData, done, refused}
-use Rattle.scm_book.specs.Machine.{Machine, TraceState, new_trace, trace_named, with_trace}
-use Rattle.scm_book.specs.Refusals.{cause, declared_cells, trace_cause, place_cause, open_refusal, in_trace}
-use Rattle.scm_book.specs.Steps.{Unless, IsStepOrNoMemory, InTrace, Opens}
+use Rattle.scm_book.specs.Machine.{opens, ReplyData, done, refused, Machine, TraceState, new_trace, trace_named, with_trace, cause, declared_cells, trace_cause, place_cause, open_refusal, in_trace, Unless, IsStepOrNoMemory, InTrace, Opens}
 
 -- ---- a call, its first cause of refusal and its effect
 

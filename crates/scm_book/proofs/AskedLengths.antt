@@ -1,22 +1,16 @@
 -- The lengths that a question is about: the present ones, or those of a mark.
 use Rattle.std.proofs.Common.{◌≡◌, ℕ, ◌+◌, ◌*◌, ◌<◌, ◌^◌, List, length, Bool, true, false, Option, None, Some, Result, Ok, IsOkAnd, refl, sym, ap, ap₂, ◌∙◌, subst, arith}
 use Rattle.scm_sequences.specs.declared.refusal.Refusal.{Refusal}
-use Rattle.scm_sequences.specs.Lengths.{IsWithin}
-use Rattle.scm_sequences.specs.Ops.{NamesCellsBelow}
+use Rattle.scm_sequences.specs.Sequences.{IsWithin, NamesCellsBelow, lengths_of}
 use Rattle.scm_sequences.specs.laws.LengthLaws.{IsWithin-reflexive}
-use Rattle.scm_sequences.specs.Sequences.{lengths_of}
 use Rattle.scm_sequences.specs.laws.SequenceLaws.{length-lengths_of}
 use Rattle.scm_sequences.specs.Traces.{Trace, cut_to}
 use Rattle.scm_sequences.specs.laws.CutLaws.{cut_to-whole}
 use Rattle.scm_reach.specs.Kept.{Kept}
-use Rattle.scm_book.specs.Asking.{CanAsk, IsAsWanted, AsksFor}
-use Rattle.scm_book.specs.Calls.{ReplyData}
-use Rattle.scm_book.specs.Machine.{TraceState, trace_in}
-use Rattle.scm_book.specs.Refusals.{refusal_in, question_cause}
-use Rattle.scm_book.specs.Sets.{asked_lengths, lengths_at_mark, most_steps}
-use Rattle.scm_book.specs.Sound.{IsSoundTrace, IsKeptFor}
-use Rattle.scm_book.specs.Steps.{IsAbout, AsksCycle}
-use Rattle.scm_book.specs.Verdicts.{Fits, FitsCycle}
+use Rattle.scm_book.specs.inner.Asking.{CanAsk, IsAsWanted, AsksFor}
+use Rattle.scm_book.specs.Machine.{ReplyData, TraceState, trace_in, refusal_in, question_cause, IsAbout, AsksCycle, Fits, FitsCycle}
+use Rattle.scm_book.specs.inner.Sets.{asked_lengths, lengths_at_mark, most_steps}
+use Rattle.scm_book.specs.inner.Sound.{IsSoundTrace, IsKeptFor}
 use Rattle.scm_book.proofs.Keeping.{kept_of}
 use Rattle.scm_book.proofs.Questions.{names_of}
 use Rattle.scm_book.proofs.Sounding.{IsWithin-mark}

@@ -7,16 +7,13 @@ use Rattle.scm_sequences.specs.declared.limits.TheConstants.{MOST_ENTRIES}
 use Rattle.std.specs.Arc.{arc_value}
 use Rattle.std.specs.Global.{Global}
 use Rattle.std.specs.declared.sync.Arc.{Arc}
-use Rattle.scm_book.specs.Calls.{CallData, ReplyData, EntryData, KeptCall, refused, call_data, reply_data}
+use Rattle.scm_book.specs.Machine.{CallData, ReplyData, EntryData, KeptCall, refused, call_data, reply_data, Machine, empty_machine, IsStep, IsStepOrNoMemory}
 use Rattle.scm_book.specs.declared.call.Call.{Call}
-use Rattle.scm_book.specs.Machine.{Machine, empty_machine}
-use Rattle.scm_book.specs.Steps.{IsStep, IsStepOrNoMemory}
-use Rattle.scm_book.specs.Changes.{tells_of_change}
+use Rattle.scm_book.specs.inner.Changes.{tells_of_change}
 use Rattle.scm_results.specs.declared.results.Results.{Results}
 use Rattle.scm_results.specs.Totals.{capped}
-use Rattle.scm_book.specs.Sets.{KeptTrace, machine_in, sets_in, LeavesSets}
-use Rattle.scm_book.specs.Runs.{Answered, IsRun}
-use Rattle.scm_book.specs.Journal.{BookState, IsUnchanged, IsLegalHistory, AreOfEntry, IsCall, is_full, makes_entry, entered, answered}
+use Rattle.scm_book.specs.inner.Sets.{KeptTrace, machine_in, sets_in, LeavesSets}
+use Rattle.scm_book.specs.Journal.{Answered, IsRun, BookState, IsUnchanged, IsLegalHistory, AreOfEntry, IsCall, is_full, makes_entry, entered, answered}
 use Rattle.scm_book.proofs.Counting.{AreNumbered-entered}
 use Rattle.scm_book.specs.laws.ReplyLaws.{IsStep-enters}
 use Rattle.scm_book.proofs.Leaving.{leaves_idle}

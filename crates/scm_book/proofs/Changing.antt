@@ -1,11 +1,8 @@
 -- Only a call that is done, or sets a mark, changes the machine.
 use Rattle.std.proofs.Common.{◌≡◌, ℕ, true, false, Option, None, Some, IsSomeAnd, subst, inl, inr}
 use Rattle.scm_sequences.specs.declared.refusal.Refusal.{Refusal}
-use Rattle.scm_book.specs.Calls.{CallData, opens, claims, releases, reports, sets_mark, goes_back, raises, asks, asks_why, asks_cycle, shows, lists, closes, ReplyData, done, marked}
-use Rattle.scm_book.specs.Machine.{Machine, TraceState, trace_named}
-use Rattle.scm_book.specs.Refusals.{refusal_of}
-use Rattle.scm_book.specs.Steps.{Unless, HasEffect, IsStepOrNoMemory}
-use Rattle.scm_book.specs.Changes.{tells_of_change}
+use Rattle.scm_book.specs.Machine.{CallData, opens, claims, releases, reports, sets_mark, goes_back, raises, asks, asks_why, asks_cycle, shows, lists, closes, ReplyData, done, marked, Machine, TraceState, trace_named, refusal_of, Unless, HasEffect, IsStepOrNoMemory}
+use Rattle.scm_book.specs.inner.Changes.{tells_of_change}
 
 -- a reply that doesn't tell of a change is neither of these
 told-done : (reply : ReplyData) → tells_of_change reply ≡ false → reply ≡ done → ⊥

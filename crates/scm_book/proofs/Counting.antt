@@ -6,9 +6,9 @@ use Rattle.std.proofs.lemmas.List.{get_or-set_same, get_or-set_other, get_or_def
 use Rattle.std.proofs.lemmas.List.Sums.{sum_by-append}
 use Rattle.std.specs.Arc.{arc_value}
 use Rattle.scm_book.specs.declared.entry.Entry.{Entry}
-use Rattle.scm_book.specs.Calls.{CallData, ReplyData, EntryData, call_data, reply_data, entry_data}
+use Rattle.scm_book.specs.Machine.{CallData, ReplyData, EntryData, call_data, reply_data, entry_data}
 use Rattle.scm_book.specs.Journal.{count_of, entered, AreNumbered}
-use Rattle.scm_book.specs.JournalState.{CountsEach}
+use Rattle.scm_book.specs.inner.JournalState.{CountsEach}
 
 widened : (counts : List ℕ) (n session : ℕ) → slice_index (counts ++ replicate n 0) session ≡ slice_index counts session
 widened [] zero session = refl

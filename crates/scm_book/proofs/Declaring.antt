@@ -11,14 +11,12 @@ use Rattle.std.proofs.lemmas.List.Folds.{list_any-append}
 use Rattle.scm_sequences.specs.declared.refusal.Refusal.{Refusal}
 use Rattle.scm_sequences.specs.declared.refusal.Refusal.TheVariants.{BadDeclaration}
 use Rattle.scm_sequences.specs.declared.limits.TheConstants.{MOST_CELLS}
-use Rattle.scm_sequences.specs.Refusals.{Refuses}
+use Rattle.scm_sequences.specs.Sequences.{Refuses}
 use Rattle.scm_cells.specs.declared.width.Width.{Width}
 use Rattle.scm_cells.specs.declared.initial.Initial.{Initial}
-use Rattle.scm_cells.specs.Names.{name_eq}
-use Rattle.scm_cells.specs.Initials.{first_contents}
-use Rattle.scm_cells.specs.CellLists.{Declared, add_refusal, declared_cell}
+use Rattle.scm_cells.specs.CellLists.{name_eq, first_contents, Declared, add_refusal, declared_cell}
 use Rattle.scm_book.specs.declared.call.Decl.{Decl}
-use Rattle.scm_book.specs.Refusals.{cause, names_differ, declared_cells, are_bad_cells}
+use Rattle.scm_book.specs.Machine.{cause, names_differ, declared_cells, are_bad_cells}
 
 -- the cells after all of these were added, None where one is refused
 unfoldable pub add_all : List Declared → List Decl → Option (List Declared)

@@ -7,13 +7,12 @@ use Rattle.scm_results.specs.declared.results.Results.{Results}
 use Rattle.scm_results.specs.Totals.{none_counted, with_fate}
 use Rattle.scm_expand.specs.declared.task.Task.{Task}
 use Rattle.scm_expand.specs.Outcomes.{Expanded}
-use Rattle.scm_cells.specs.Names.{name_eq}
-use Rattle.scm_reach.specs.Kept.{Kept}
-use Rattle.scm_reach.specs.Members.{Member}
-use Rattle.scm_reach.specs.Accepting.{Accepts}
+use Rattle.scm_cells.specs.CellLists.{name_eq}
+use Rattle.scm_reach.specs.Kept.{Kept, Member}
+use Rattle.scm_reach.specs.inner.Accepting.{Accepts}
 use Rattle.scm_book.specs.Machine.{Machine, TraceState, trace_named}
-use Rattle.scm_book.specs.Sets.{KeptTrace, set_named, Becomes}
-use Rattle.scm_book.specs.Workers.{Meets, MeetAll, with_fates, Delivers}
+use Rattle.scm_book.specs.inner.Sets.{KeptTrace, set_named, Becomes}
+use Rattle.scm_book.specs.inner.Workers.{Meets, MeetAll, with_fates, Delivers}
 
 -- ---- one outcome
 

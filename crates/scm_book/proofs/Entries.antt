@@ -6,10 +6,10 @@ use Rattle.std.proofs.lemmas.Map.Steps.{set_value_same}
 use Rattle.std.specs.Map.{lookup, set_value, remove_entry}
 use Rattle.std.specs.Option.{option_map}
 use Rattle.indexmap.specs.IndexMap.{insert_entry}
-use Rattle.scm_cells.specs.Names.{name_eq}
+use Rattle.scm_cells.specs.CellLists.{name_eq}
 use Rattle.scm_reach.specs.Kept.{Kept}
 use Rattle.scm_book.specs.Machine.{Machine, TraceState, trace_names, state_named, trace_named, with_state, with_trace, without_state, without_trace}
-use Rattle.scm_book.specs.Sets.{KeptTrace, machine_in, sets_in, set_named}
+use Rattle.scm_book.specs.inner.Sets.{KeptTrace, machine_in, sets_in, set_named}
 
 -- ---- the words of a map
 

@@ -4,10 +4,8 @@ use Rattle.std.specs.Option.{option_or, option_map, option_and_then}
 use Rattle.std.specs.List.{range_with_len, cons_option}
 use Rattle.std.proofs.lemmas.List.Elements.{All-nil, All-cons}
 use Rattle.scm_sequences.specs.declared.op.Op.{Op}
-use Rattle.scm_sequences.specs.Ops.{read_of}
-use Rattle.scm_sequences.specs.Traces.{Trace, trace_of, initial_of, cut_to}
-use Rattle.scm_sequences.specs.Fronts.{IsLegal}
-use Rattle.scm_sequences.specs.FixedValues.{unwritten_read, fixed_value, fixed_values}
+use Rattle.scm_sequences.specs.Sequences.{read_of}
+use Rattle.scm_sequences.specs.Traces.{Trace, trace_of, initial_of, cut_to, IsLegal, unwritten_read, fixed_value, fixed_values}
 use Rattle.scm_sequences.specs.laws.FixedLaws.{unwritten_read-nil, unwritten_read-step}
 use Rattle.scm_sequences.specs.laws.CutLaws.{AgreeOn, AgreeOn-earlier, AgreeOn-cut, following-agree, last_written-agree, count_in-cut}
 use Rattle.scm_cells.specs.CellLists.{Declared, initials_of}

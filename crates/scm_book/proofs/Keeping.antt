@@ -3,12 +3,12 @@ use Rattle.std.proofs.Common.{ℕ, ◌≡◌, List, length, sym, ap, ◌∙◌, 
 use Rattle.scm_sequences.specs.declared.op.Op.{Op}
 use Rattle.scm_sequences.specs.Sequences.{pushed, cut_lists}
 use Rattle.scm_sequences.specs.Traces.{trace_of, cut_to}
-use Rattle.scm_reach.specs.Cutting.{cut_members}
+use Rattle.scm_reach.specs.inner.Cutting.{cut_members}
 use Rattle.scm_reach.specs.Kept.{Kept, IsKept}
 use Rattle.scm_reach.specs.laws.WorkLaws.{length-cut-le}
 use Rattle.scm_cells.specs.CellLists.{initials_of}
 use Rattle.scm_book.specs.Machine.{TraceState}
-use Rattle.scm_book.specs.Sound.{IsKeptFor}
+use Rattle.scm_book.specs.inner.Sound.{IsKeptFor}
 
 -- said of the set's own initial values
 pub kept_of : (state : TraceState) (set : Kept) → IsKeptFor state set → IsKept (trace_of set.initials state.sequences) set.members

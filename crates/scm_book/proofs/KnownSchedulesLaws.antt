@@ -3,8 +3,7 @@ use Rattle.std.proofs.Common.{ℕ, ◌≡◌, ◌≤◌, max, suc, List, [], ◌
 use Rattle.std.proofs.lemmas.List.Sums.{sum_by-cons}
 use Rattle.scm_sequences.specs.declared.op.Op.{Op}
 use Rattle.scm_sequences.specs.declared.refusal.Refusal.{Refusal}
-use Rattle.scm_sequences.specs.Lengths.{IsWithin}
-use Rattle.scm_sequences.specs.Sequences.{push_refusal, pushed, lengths_of, cut_lists}
+use Rattle.scm_sequences.specs.Sequences.{IsWithin, push_refusal, pushed, lengths_of, cut_lists}
 use Rattle.scm_sequences.specs.laws.SequenceLaws.{lengths_of-cut_lists, push_refusal-none}
 use Rattle.scm_sequences.specs.laws.LengthLaws.{IsWithin-pushed}
 

@@ -5,18 +5,16 @@ use Rattle.std.specs.Map.{lookup, set_value}
 use Rattle.std.proofs.lemmas.Map.Steps.{set_value_same}
 use Rattle.scm_sequences.specs.declared.refusal.Refusal.{Refusal}
 use Rattle.scm_sequences.specs.declared.refusal.Refusal.TheVariants.{NoMemory}
-use Rattle.scm_cells.specs.Names.{name_eq}
+use Rattle.scm_cells.specs.CellLists.{name_eq}
 use Rattle.scm_marks.specs.MarkLists.{mark_at}
-use Rattle.scm_reach.specs.Kept.{Kept}
-use Rattle.scm_reach.specs.Members.{Member}
+use Rattle.scm_reach.specs.Kept.{Kept, Member}
 use Rattle.scm_sequences.specs.declared.op.Op.{Op}
-use Rattle.scm_reach.specs.Cutting.{cut_members}
+use Rattle.scm_reach.specs.inner.Cutting.{cut_members}
 use Rattle.scm_reach.specs.laws.WorkLaws.{KeepsWork-idle, KeepsWork-counted}
-use Rattle.scm_book.specs.Calls.{CallData, opens, claims, releases, reports, sets_mark, goes_back, raises, asks, asks_why, asks_cycle, shows, lists, closes, ReplyData, done, marked, consistent, inconsistent, undecided, because, cycle, unknown, ops, listed, refused}
-use Rattle.scm_book.specs.Changes.{tells_of_change}
-use Rattle.scm_book.specs.Machine.{Machine, TraceState, trace_named}
-use Rattle.scm_book.specs.Sound.{IsKeptFor}
-use Rattle.scm_book.specs.Sets.{most_steps, HasRoomFor, HoldsFor, KeptTrace, machine_in, sets_in, set_named, IsKnownBy, Becomes, CutsSet, asked_lengths, Searches, IsIdle, SearchesSet, IfDone, LeavesSets}
+use Rattle.scm_book.specs.Machine.{CallData, opens, claims, releases, reports, sets_mark, goes_back, raises, asks, asks_why, asks_cycle, shows, lists, closes, ReplyData, done, marked, consistent, inconsistent, undecided, because, cycle, unknown, ops, listed, refused, Machine, TraceState, trace_named}
+use Rattle.scm_book.specs.inner.Changes.{tells_of_change}
+use Rattle.scm_book.specs.inner.Sound.{IsKeptFor}
+use Rattle.scm_book.specs.inner.Sets.{most_steps, HasRoomFor, HoldsFor, KeptTrace, machine_in, sets_in, set_named, IsKnownBy, Becomes, CutsSet, asked_lengths, Searches, IsIdle, SearchesSet, IfDone, LeavesSets}
 use Rattle.scm_book.proofs.Entries.{trace_named-lookup, set_named-lookup}
 
 module _ (machine : Machine) (sets new : List (List ℕ × Kept)) (name : List ℕ) where

@@ -5,18 +5,17 @@ use Rattle.std.proofs.lemmas.List.{get_or-map, take_more}
 use Rattle.std.specs.Map.{set_value}
 use Rattle.std.proofs.lemmas.Map.Steps.{set_value_same}
 use Rattle.scm_sequences.specs.Traces.{trace_of}
-use Rattle.scm_cells.specs.Names.{name_eq}
+use Rattle.scm_cells.specs.CellLists.{name_eq, Declared, initials_of}
 use Rattle.scm_cells.specs.declared.width.Width.TheVariants.{W}
-use Rattle.scm_cells.specs.CellLists.{Declared, initials_of}
 use Rattle.scm_cells.specs.laws.CellLaws.{length-initials_of}
 use Rattle.scm_frontier.specs.laws.ComparisonLaws.{option_eq-Decides}
 use Rattle.scm_reach.specs.Kept.{Kept, IsKept}
 use Rattle.scm_reach.specs.laws.MemberLaws.{at_from_IsSomeAnd}
-use Rattle.scm_book.specs.Asking.{CanAsk}
-use Rattle.scm_book.specs.Loans.{Loaned, CanSearch, Lends, IsLentOf, TakesBack, IsTakenBack}
+use Rattle.scm_book.specs.inner.Asking.{CanAsk}
+use Rattle.scm_book.specs.inner.Loans.{Loaned, CanSearch, Lends, IsLentOf, TakesBack, IsTakenBack}
 use Rattle.scm_book.specs.Machine.{Machine, TraceState, trace_named}
-use Rattle.scm_book.specs.Sets.{set_named, asked_lengths, most_steps, Becomes}
-use Rattle.scm_book.specs.Sound.{IsSoundTrace, IsKeptFor}
+use Rattle.scm_book.specs.inner.Sets.{set_named, asked_lengths, most_steps, Becomes}
+use Rattle.scm_book.specs.inner.Sound.{IsSoundTrace, IsKeptFor}
 use Rattle.scm_book.proofs.AskedLengths.{can_ask}
 
 -- what may be asked may be searched elsewhere

@@ -4,7 +4,7 @@ use Rattle.std.proofs.Math.Seq.{get_or-append_seam}
 use Rattle.std.proofs.lemmas.Bool.{cases_lt}
 use Rattle.std.proofs.lemmas.List.{get_or_append_left, get_or-take, get_or_default, length-take, length_push}
 use Rattle.std.proofs.lemmas.List.Quantifiers.{all_pairs_push}
-use Rattle.scm_sequences.specs.Lengths.{IsWithin}
+use Rattle.scm_sequences.specs.Sequences.{IsWithin}
 use Rattle.scm_sequences.specs.laws.LengthLaws.{IsWithin-reflexive, IsWithin-transitive}
 
 -- the items before the last

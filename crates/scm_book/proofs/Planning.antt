@@ -5,24 +5,18 @@ use Rattle.std.specs.Result.{result_ok}
 use Rattle.std.proofs.lemmas.Map.Steps.{set_value_same}
 use Rattle.scm_sequences.specs.declared.op.Op.{Op}
 use Rattle.scm_sequences.specs.declared.refusal.Refusal.{Refusal}
-use Rattle.scm_sequences.specs.Fronts.{IsSchedule}
-use Rattle.scm_sequences.specs.Traces.{cut_to, trace_of}
-use Rattle.scm_cells.specs.CellLists.{Declared, initials_of}
-use Rattle.scm_cells.specs.Names.{name_eq}
-use Rattle.scm_reach.specs.Members.{Member}
+use Rattle.scm_sequences.specs.Traces.{IsSchedule, cut_to, trace_of}
+use Rattle.scm_cells.specs.CellLists.{Declared, initials_of, name_eq}
+use Rattle.scm_reach.specs.Kept.{Member}
 use Rattle.scm_reach.specs.Work.{HasWhole}
 use Rattle.scm_reach.specs.laws.WorkLaws.{KeepsWork-idle}
 use Rattle.scm_book.specs.declared.plan.Outlook.{Outlook}
 use Rattle.scm_book.specs.declared.plan.Outlook.TheVariants.{Known}
 use Rattle.scm_book.specs.declared.reply.Reply.{Reply}
-use Rattle.scm_book.specs.Asking.{IsAsWanted}
-use Rattle.scm_book.specs.Calls.{CallData, opens, claims, releases, reports, sets_mark, goes_back, raises, asks, asks_why, asks_cycle, shows, lists, closes, ReplyData, done, marked, consistent, inconsistent, undecided, because, cycle, unknown, ops, listed, refused, reply_data}
-use Rattle.scm_book.specs.Machine.{Machine, TraceState, trace_named, trace_in}
-use Rattle.scm_book.specs.Plans.{HasSchedule, IsExplained, IsKnown, IsKnownReply, known_reply}
-use Rattle.scm_book.specs.Refusals.{question_cause}
-use Rattle.scm_book.specs.Sets.{KeptTrace, machine_in, sets_in, set_named, asked_lengths, IsKnownBy, Searches, SearchesSet, LeavesSets}
-use Rattle.scm_book.specs.Steps.{Asks, AsksWhy, InTrace, IsStepOrNoMemory}
-use Rattle.scm_book.specs.Verdicts.{Fits}
+use Rattle.scm_book.specs.inner.Asking.{IsAsWanted}
+use Rattle.scm_book.specs.Machine.{CallData, opens, claims, releases, reports, sets_mark, goes_back, raises, asks, asks_why, asks_cycle, shows, lists, closes, ReplyData, done, marked, consistent, inconsistent, undecided, because, cycle, unknown, ops, listed, refused, reply_data, Machine, TraceState, trace_named, trace_in, question_cause, Asks, AsksWhy, InTrace, IsStepOrNoMemory, Fits}
+use Rattle.scm_book.specs.inner.Plans.{HasSchedule, IsExplained, IsKnown, IsKnownReply, known_reply}
+use Rattle.scm_book.specs.inner.Sets.{KeptTrace, machine_in, sets_in, set_named, asked_lengths, IsKnownBy, Searches, SearchesSet, LeavesSets}
 use Rattle.scm_book.proofs.Answering.{there_done}
 use Rattle.scm_book.proofs.AskedLengths.{about_asked, cause_none}
 use Rattle.scm_book.proofs.Entries.{trace_named-lookup, set_named-lookup}

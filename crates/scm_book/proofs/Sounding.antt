@@ -8,14 +8,12 @@ use Rattle.std.specs.Option.{ok_or}
 use Rattle.scm_sequences.specs.declared.op.Op.{Op}
 use Rattle.scm_sequences.specs.declared.refusal.Refusal.{Refusal}
 use Rattle.scm_sequences.specs.declared.refusal.Refusal.TheVariants.{NoSuchMark}
-use Rattle.scm_sequences.specs.Lengths.{IsWithin}
-use Rattle.scm_sequences.specs.Ops.{cell_of}
-use Rattle.scm_sequences.specs.Sequences.{push_refusal, pushed, lengths_of, cut_lists}
+use Rattle.scm_sequences.specs.Sequences.{IsWithin, cell_of, push_refusal, pushed, lengths_of, cut_lists}
 use Rattle.scm_sequences.specs.laws.SequenceLaws.{length-pushed, length-cut_lists, lengths_of-cut_lists, push_refusal-none, AreSequences-replicate, AreSequences-pushed, AreSequences-cut_lists, NamesCellsBelow-pushed, NamesCellsBelow-cut_lists}
 use Rattle.scm_marks.specs.MarkLists.{mark_at, marks_up_to}
 use Rattle.scm_cells.specs.CellLists.{Declared, AreCells}
 use Rattle.scm_book.specs.Machine.{TraceState, new_trace}
-use Rattle.scm_book.specs.Sound.{IsSoundTrace}
+use Rattle.scm_book.specs.inner.Sound.{IsSoundTrace}
 use Rattle.scm_sequences.specs.laws.LengthLaws.{IsWithin-pushed}
 use Rattle.scm_book.proofs.Marking.{within_last, before_last, AllPairs-grown, AllPairs-twice, AllPairs-back}
 

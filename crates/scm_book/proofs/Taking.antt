@@ -6,14 +6,14 @@ use Rattle.std.proofs.lemmas.Map.Steps.{set_value_same}
 use Rattle.std.specs.Map.{lookup, set_value}
 use Rattle.std.specs.Option.{option_map_or}
 use Rattle.scm_cells.specs.laws.NameLaws.{name_eq-Decides}
-use Rattle.scm_cells.specs.Names.{name_eq}
+use Rattle.scm_cells.specs.CellLists.{name_eq}
 use Rattle.scm_expand.specs.declared.task.Task.{Task}
-use Rattle.scm_reach.specs.Handing.{Hands}
+use Rattle.scm_reach.specs.inner.Handing.{Hands}
 use Rattle.scm_reach.specs.Kept.{Kept}
 use Rattle.scm_book.proofs.Entries.{trace_named-lookup, set_named-lookup}
 use Rattle.scm_book.specs.Machine.{Machine, TraceState, trace_named}
-use Rattle.scm_book.specs.Sets.{KeptTrace, InKept, machine_in, sets_in, set_named}
-use Rattle.scm_book.specs.Workers.{HoldsOfNone, ComesFirst, TakesTasks}
+use Rattle.scm_book.specs.inner.Sets.{KeptTrace, InKept, machine_in, sets_in, set_named}
+use Rattle.scm_book.specs.inner.Workers.{HoldsOfNone, ComesFirst, TakesTasks}
 
 -- ---- the search for a trace
 

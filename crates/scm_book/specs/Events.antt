@@ -5,11 +5,10 @@ use Rattle.scm_expand.specs.declared.task.Task.{Task}
 use Rattle.scm_expand.specs.Outcomes.{Expanded}
 use Rattle.scm_book.specs.declared.event.Event.{Event}
 use Rattle.scm_book.specs.declared.event.Event.TheVariants.{CallBy, Take, Deliver, Lend, LendWork, TakeBack}
-use Rattle.scm_book.specs.Calls.{CallData, ReplyData, call_data}
-use Rattle.scm_book.specs.Runs.{Answered}
-use Rattle.scm_book.specs.Journal.{BookState, makes_entry, IsCall}
-use Rattle.scm_book.specs.Workers.{IsTaking, IsDelivery}
-use Rattle.scm_book.specs.Loans.{Loaned, IsLending, IsLendingForWork, IsTakingBack}
+use Rattle.scm_book.specs.Machine.{CallData, ReplyData, call_data}
+use Rattle.scm_book.specs.Journal.{Answered, BookState, makes_entry, IsCall}
+use Rattle.scm_book.specs.inner.Workers.{IsTaking, IsDelivery}
+use Rattle.scm_book.specs.inner.Loans.{Loaned, IsLending, IsLendingForWork, IsTakingBack}
 
 pub data EventData : Type 0 where
   -- a session and its call

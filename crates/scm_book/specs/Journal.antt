@@ -1,17 +1,30 @@
--- The journal: each call and its reply, but for those refused for want of memory or since the journal was full. It is a
--- legal history: a run of the machine from the empty one.
-use Rattle.std.specs.Prelude.{ℕ, ◌≡◌, ◌+◌, ◌≤◌, ◌↔◌, ⊤, List, [], ◌∷◌, ◌++◌, length, map, Bool, true, false, nat_le, ◌==◌, count_by, Option, MatchOption}
+-- Runs of the machine, and the journal of a book: each call and its reply, but for those refused for want of memory or since the
+-- journal was full. It is a legal history: a run from the empty machine.
+use Rattle.std.specs.Prelude.{ℕ, ◌≡◌, List, [], ◌∷◌, ◌+◌, ◌≤◌, ◌↔◌, ⊤, ◌++◌, length, map, Bool, true, false, nat_le, ◌==◌, count_by, Option, MatchOption}
+use Rattle.scm_book.specs.Machine.{CallData, ReplyData, Machine, IsStep, refused, EntryData, KeptCall, kept_data, reply_data, empty_machine}
 use Rattle.scm_sequences.specs.declared.refusal.Refusal.TheVariants.{JournalFull, NoMemory}
 use Rattle.scm_sequences.specs.declared.limits.TheConstants.{MOST_ENTRIES}
 use Rattle.scm_results.specs.declared.results.Results.{Results}
 use Rattle.scm_results.specs.Totals.{capped}
 use Rattle.scm_reach.specs.Kept.{Kept}
 use Rattle.scm_book.specs.declared.reply.Reply.{Reply}
-use Rattle.scm_book.specs.Calls.{CallData, ReplyData, refused, EntryData, KeptCall, kept_data, reply_data}
-use Rattle.scm_book.specs.Machine.{Machine, empty_machine}
-use Rattle.scm_book.specs.Sets.{LeavesSets}
-use Rattle.scm_book.specs.Steps.{IsStep}
-use Rattle.scm_book.specs.Runs.{Answered, IsRun}
+use Rattle.scm_book.specs.inner.Sets.{LeavesSets}
+
+-- ==== a run of the machine: steps, each from where the one before ended.
+
+-- a session's call and its reply
+pub record Answered : Type 0 where
+  pub session : ℕ
+  pub call : CallData
+  pub reply : ReplyData
+
+abbrev pub IsRun : Machine → List Answered → Machine → Type 0
+IsRun old [] new = new ≡ old
+IsRun old (a ∷ others) new =
+    (mid : Machine) × IsStep old a.session a.call a.reply mid × IsRun mid others new
+
+-- ==== the journal: each call and its reply, but for those refused for want of memory or since the journal was full. It is a
+-- legal history: a run of the machine from the empty one.
 
 -- what contracts see of a book
 pub record BookState : Type 0 where

@@ -1,15 +1,14 @@
 //! The book of open traces.
 ghost use Rattle.std.specs.Prelude.{◌≡◌, ◌≢◌, ◌↔◌, ◌+◌, ◌-◌, [], false, map, None, Some, true, is_ok, IsTrue, IfOk, IfSome, IsSomeAnd, MatchResult};
 ghost use Rattle.std.specs.Arc.{arc_value};
-ghost use Rattle.scm_book.specs.Calls.{call_data, reply_data, entry_data, refused};
+ghost use Rattle.scm_book.specs.Machine.{call_data, reply_data, entry_data, refused, empty_machine};
 ghost use Rattle.scm_sequences.specs.declared.refusal.Refusal.TheVariants.{BadLine, TooManySessions};
-ghost use Rattle.scm_book.specs.Machine.{empty_machine};
-ghost use Rattle.scm_book.specs.Sets.{HasRoom, HasRoomFor, HoldsFor, LeavesSets};
+ghost use Rattle.scm_book.specs.inner.Sets.{HasRoom, HasRoomFor, HoldsFor, LeavesSets};
 ghost use Rattle.scm_results.specs.Totals.{capped, none_counted};
-ghost use Rattle.scm_book.specs.Workers.{IsTaking, IsDelivery, OffersNothingNew};
-ghost use Rattle.scm_book.specs.Loans.{IsLending, IsLendingForWork, IsTakingBack};
-ghost use Rattle.scm_book.specs.Plans.{IsKnown, known_reply, reply_in, loan_in};
-ghost use Rattle.scm_book.specs.Changes.{tells_of_change};
+ghost use Rattle.scm_book.specs.inner.Workers.{IsTaking, IsDelivery, OffersNothingNew};
+ghost use Rattle.scm_book.specs.inner.Loans.{IsLending, IsLendingForWork, IsTakingBack};
+ghost use Rattle.scm_book.specs.inner.Plans.{IsKnown, known_reply, reply_in, loan_in};
+ghost use Rattle.scm_book.specs.inner.Changes.{tells_of_change};
 ghost use Rattle.scm_book.specs.Journal.{count_of as count_in, GivesKept, IsCall, IsLegalBook};
 
 mod calls;
@@ -47,7 +46,7 @@ pub struct Book {
 
 impl Model for Book {
     ghost use Rattle.scm_book.specs.Journal.{BookState, IsLegalHistory};
-    ghost use Rattle.scm_book.specs.Sets.{machine_in, sets_in};
+    ghost use Rattle.scm_book.specs.inner.Sets.{machine_in, sets_in};
 
     ghost Value = { BookState };
 

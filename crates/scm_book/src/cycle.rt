@@ -3,8 +3,7 @@ ghost use Rattle.std.specs.Prelude.{IfSome};
 ghost use Rattle.std.specs.Arc.{arc_value};
 ghost use Rattle.scm_sequences.specs.Traces.{trace_of, cut_to};
 ghost use Rattle.scm_cells.specs.CellLists.{initials_of};
-ghost use Rattle.scm_book.specs.Calls.{reply_data};
-ghost use Rattle.scm_book.specs.Verdicts.{IsRefutedBy, FitsCycle};
+ghost use Rattle.scm_book.specs.Machine.{reply_data, IsRefutedBy, FitsCycle};
 
 use crate::Reply;
 use scm_cells::Cells;

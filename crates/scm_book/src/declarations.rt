@@ -1,8 +1,8 @@
 //! From declarations to cells.
 ghost use Rattle.std.specs.Prelude.{◌≡◌, false, Some, IfOk, IfErr};
-ghost use Rattle.scm_sequences.specs.Refusals.{Refuses};
+ghost use Rattle.scm_sequences.specs.Sequences.{Refuses};
 ghost use Rattle.scm_sequences.specs.declared.refusal.Refusal.TheVariants.{BadDeclaration};
-ghost use Rattle.scm_book.specs.Refusals.{cause, are_bad_cells, declared_cells};
+ghost use Rattle.scm_book.specs.Machine.{cause, are_bad_cells, declared_cells};
 
 use crate::Decl;
 use scm_cells::Cells;

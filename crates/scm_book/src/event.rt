@@ -2,9 +2,8 @@
 ghost use Rattle.std.specs.Prelude.{◌≡◌, ◌<◌, ◌≤◌, ◌++◌, [], length, map, IfOk, IfErr};
 ghost use Rattle.std.specs.Vec.{vec_capacity};
 ghost use Rattle.std.specs.Option.{option_map};
-ghost use Rattle.scm_book.specs.Calls.{call_data, reply_data};
-ghost use Rattle.scm_book.specs.Runs.{IsRun};
-ghost use Rattle.scm_book.specs.Journal.{IsLegalBook};
+ghost use Rattle.scm_book.specs.Machine.{call_data, reply_data};
+ghost use Rattle.scm_book.specs.Journal.{IsRun, IsLegalBook};
 ghost use Rattle.scm_book.specs.Events.{takes, lends, lends_work, event_data, IsAnswered, AnswersAll, with_reply, steps_of};
 
 use crate::{Book, Call, Loan, Reply};

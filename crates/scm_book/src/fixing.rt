@@ -1,12 +1,9 @@
 //! What cells must have held at first, each under its name.
 ghost use Rattle.std.specs.Prelude.{◌≡◌, ◌<◌, length, reverse, All, IfOk};
-ghost use Rattle.scm_sequences.specs.Traces.{trace_of};
-ghost use Rattle.scm_sequences.specs.Fronts.{IsLegal};
-ghost use Rattle.scm_sequences.specs.FixedValues.{fixed_values};
-ghost use Rattle.scm_sequences.specs.Ops.{NamesCellsBelow};
+ghost use Rattle.scm_sequences.specs.Traces.{trace_of, IsLegal, fixed_values};
+ghost use Rattle.scm_sequences.specs.Sequences.{NamesCellsBelow};
 ghost use Rattle.scm_cells.specs.CellLists.{initials_of};
-ghost use Rattle.scm_book.specs.Showing.{cell_name};
-ghost use Rattle.scm_book.specs.Verdicts.{named_values};
+ghost use Rattle.scm_book.specs.Machine.{cell_name, named_values};
 
 use scm_cells::{Cells, Name};
 use scm_schedules::fixed;

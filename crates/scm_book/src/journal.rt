@@ -2,7 +2,7 @@
 ghost use Rattle.std.specs.Prelude.{◌≡◌, ◌<◌, ◌≤◌, [], false, true, length, map, IfOk, OnOk, MatchOption};
 ghost use Rattle.std.specs.Arc.{arc_value};
 ghost use Rattle.scm_sequences.specs.declared.limits.TheConstants.{MOST_ENTRIES};
-ghost use Rattle.scm_book.specs.Calls.{entry_data, call_data, reply_data};
+ghost use Rattle.scm_book.specs.Machine.{entry_data, call_data, reply_data};
 ghost use Rattle.scm_book.specs.Journal.{is_full as is_full_list, count_of as count_in, entered, AreNumbered};
 
 use crate::{Call, Entry, Reply};
@@ -23,9 +23,9 @@ pub(crate) struct Journal {
 impl Model for Journal {
     ghost use Rattle.std.specs.Prelude.{◌≤◌, ◌-◌, [], length, map, vec_capacity};
     ghost use Rattle.scm_sequences.specs.declared.limits.TheConstants.{MOST_ENTRIES};
-    ghost use Rattle.scm_book.specs.Calls.{entry_data};
+    ghost use Rattle.scm_book.specs.Machine.{entry_data};
     ghost use Rattle.scm_book.specs.Journal.{AreNumbered};
-    ghost use Rattle.scm_book.specs.JournalState.{JournalState, CountsEach};
+    ghost use Rattle.scm_book.specs.inner.JournalState.{JournalState, CountsEach};
 
     ghost Value = { JournalState };
 

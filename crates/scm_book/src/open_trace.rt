@@ -2,15 +2,12 @@
 ghost use Rattle.std.specs.Prelude.{◌≡◌, ◌∷◌, ◌++◌, [], ◌<◌, ◌≤◌, ◌==◌, length, None, Some, IfOk, IfErr, OnOk, OnErr, IsOkAnd, IsSomeAnd, slice_set, MatchResult};
 ghost use Rattle.std.specs.Arc.{arc_value};
 ghost use Rattle.scm_sequences.specs.declared.limits.TheConstants.{MOST_PROCESSES, MOST_SITUATIONS};
-ghost use Rattle.scm_sequences.specs.Refusals.{Refuses};
-ghost use Rattle.scm_sequences.specs.Sequences.{pushed, cut_lists, lengths_of};
+ghost use Rattle.scm_sequences.specs.Sequences.{Refuses, pushed, cut_lists, lengths_of};
 ghost use Rattle.scm_budget.specs.Budgets.{raised};
 ghost use Rattle.scm_marks.specs.MarkLists.{mark_at, marks_up_to};
 ghost use Rattle.scm_lowering.specs.Lowering.{lowered};
-ghost use Rattle.scm_reach.specs.Cutting.{cut_members};
-ghost use Rattle.scm_book.specs.Machine.{new_trace};
-ghost use Rattle.scm_book.specs.Refusals.{trace_cause, claim_cause, release_cause, report_cause, not_owner, mark_cause, back_cause, raise_cause, no_process, declared_cells};
-ghost use Rattle.scm_book.specs.Showing.{shown_operations};
+ghost use Rattle.scm_reach.specs.inner.Cutting.{cut_members};
+ghost use Rattle.scm_book.specs.Machine.{new_trace, trace_cause, claim_cause, release_cause, report_cause, not_owner, mark_cause, back_cause, raise_cause, no_process, declared_cells, shown_operations};
 
 mod asking;
 mod lending;
@@ -58,8 +55,8 @@ pub(crate) struct OpenTrace {
 impl Model for OpenTrace {
     ghost use Rattle.std.specs.Prelude.{◌≤◌, length, sum};
     ghost use Rattle.scm_sequences.specs.Sequences.{lengths_of};
-    ghost use Rattle.scm_book.specs.Sound.{IsSoundTrace, IsKeptFor};
-    ghost use Rattle.scm_book.specs.Sets.{KeptTrace};
+    ghost use Rattle.scm_book.specs.inner.Sound.{IsSoundTrace, IsKeptFor};
+    ghost use Rattle.scm_book.specs.inner.Sets.{KeptTrace};
 
     ghost Value = { KeptTrace };
 

@@ -1,11 +1,9 @@
 //! Schedules that are proposed and judged.
 ghost use Rattle.std.specs.Prelude.{reverse, IfSome, IsTrue};
 ghost use Rattle.scm_sequences.specs.declared.limits.TheConstants.{MOST_CELLS};
-ghost use Rattle.scm_sequences.specs.Lengths.{IsWithin};
-ghost use Rattle.scm_sequences.specs.Sequences.{lengths_of};
-ghost use Rattle.scm_sequences.specs.Traces.{trace_of, cut_to};
-ghost use Rattle.scm_sequences.specs.Fronts.{IsSchedule};
-ghost use Rattle.scm_book.specs.Loans.{CanJudge};
+ghost use Rattle.scm_sequences.specs.Sequences.{IsWithin, lengths_of};
+ghost use Rattle.scm_sequences.specs.Traces.{trace_of, cut_to, IsSchedule};
+ghost use Rattle.scm_book.specs.inner.Loans.{CanJudge};
 
 use crate::known_schedules::KnownSchedules;
 use crate::open_trace::Purpose;

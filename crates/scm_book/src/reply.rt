@@ -1,9 +1,9 @@
 //! The replies of the book.
 ghost use Rattle.std.specs.Prelude.{◌≡◌, true, IfOk, is_ok};
 ghost use Rattle.std.specs.Arc.{arc_value};
-ghost use Rattle.scm_book.specs.Calls.{reply_data};
+ghost use Rattle.scm_book.specs.Machine.{reply_data};
 ghost use Rattle.scm_book.specs.Journal.{makes_entry as makes_entry_data};
-ghost use Rattle.scm_book.specs.Changes.{tells_of_change};
+ghost use Rattle.scm_book.specs.inner.Changes.{tells_of_change};
 
 use scm_cells::Name;
 use scm_frontier::Situation;

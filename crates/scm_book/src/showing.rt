@@ -1,8 +1,8 @@
 //! The operations of a process as they are shown.
 ghost use Rattle.std.specs.Prelude.{◌≡◌, ◌<◌, length, map, All, IfOk};
 ghost use Rattle.std.specs.Arc.{arc_value};
-ghost use Rattle.scm_sequences.specs.Ops.{cell_of};
-ghost use Rattle.scm_book.specs.Showing.{shown_operation};
+ghost use Rattle.scm_sequences.specs.Sequences.{cell_of};
+ghost use Rattle.scm_book.specs.Machine.{shown_operation};
 
 use crate::Shown;
 use crate::reply::shared;

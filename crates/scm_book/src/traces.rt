@@ -3,13 +3,10 @@ ghost use Rattle.std.specs.Prelude.{◌≡◌, ◌↔◌, [], is_ok, IfOk, IfErr
 ghost use Rattle.std.specs.Arc.{arc_value};
 ghost use Rattle.std.specs.Map.{remove_entry};
 ghost use Rattle.indexmap.specs.IndexMap.{insert_entry};
-ghost use Rattle.scm_cells.specs.Names.{name_eq};
-ghost use Rattle.scm_book.specs.Calls.{call_data, reply_data, opens, claims, releases, reports, sets_mark, goes_back, raises, asks, asks_why, asks_cycle, shows, lists, closes};
-ghost use Rattle.scm_book.specs.Machine.{trace_names};
-ghost use Rattle.scm_book.specs.Plans.{IsKnown, known_reply};
-ghost use Rattle.scm_book.specs.Refusals.{place_cause};
-ghost use Rattle.scm_book.specs.Sets.{machine_in, sets_in, HasRoom, HasRoomFor, HoldsFor, IfDone, HasNewSet, CutsSet, SearchesSet, LeavesSets};
-ghost use Rattle.scm_book.specs.Steps.{IsStepOrNoMemory};
+ghost use Rattle.scm_cells.specs.CellLists.{name_eq};
+ghost use Rattle.scm_book.specs.Machine.{call_data, reply_data, opens, claims, releases, reports, sets_mark, goes_back, raises, asks, asks_why, asks_cycle, shows, lists, closes, trace_names, place_cause, IsStepOrNoMemory};
+ghost use Rattle.scm_book.specs.inner.Plans.{IsKnown, known_reply};
+ghost use Rattle.scm_book.specs.inner.Sets.{machine_in, sets_in, HasRoom, HasRoomFor, HoldsFor, IfDone, HasNewSet, CutsSet, SearchesSet, LeavesSets};
 
 mod lending;
 mod working;
@@ -37,7 +34,7 @@ pub(crate) struct Traces {
 
 impl Model for Traces {
     ghost use Rattle.std.specs.Prelude.{ℕ, List};
-    ghost use Rattle.scm_book.specs.Sets.{KeptTrace};
+    ghost use Rattle.scm_book.specs.inner.Sets.{KeptTrace};
 
     ghost Value = { List (List ℕ × KeptTrace) };
 

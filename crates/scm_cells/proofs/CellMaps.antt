@@ -13,11 +13,8 @@ use Rattle.scm_sequences.specs.declared.limits.TheConstants.{MOST_CELLS}
 use Rattle.scm_cells.specs.declared.cells.CellProperties.{CellProperties}
 use Rattle.scm_cells.specs.declared.initial.Initial.{Initial}
 use Rattle.scm_cells.specs.declared.width.Width.{Width}
-use Rattle.scm_cells.specs.Names.{name_eq}
+use Rattle.scm_cells.specs.CellLists.{name_eq, first_contents, Declared, add_refusal, cell_named, declared_cell, initials_of, cells_in}
 use Rattle.scm_cells.specs.laws.NameLaws.{position-named, list_any-named}
-use Rattle.scm_cells.specs.Initials.{first_contents}
-use Rattle.scm_cells.specs.CellLists.{Declared, add_refusal, cell_named, declared_cell, initials_of}
-use Rattle.scm_cells.specs.CellEntries.{cells_in}
 
 pub length-cells_in : (entries : List (List ℕ × CellProperties))
     → length (cells_in entries) ≡ length entries

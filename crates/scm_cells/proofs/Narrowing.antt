@@ -5,8 +5,7 @@ use Rattle.std.proofs.lemmas.Nat.{and_mask}
 use Rattle.scm_cells.specs.declared.width.Width.{Width}
 use Rattle.scm_cells.specs.declared.width.Width.TheVariants.{W, D}
 use Rattle.scm_cells.specs.declared.number.Num.TheVariants.{Plain, Negative}
-use Rattle.scm_cells.specs.Widths.{values_of}
-use Rattle.scm_cells.specs.Numbers.{value_of_number}
+use Rattle.scm_cells.specs.Numbers.{values_of, value_of_number}
 
 and-max_value : (width : Width) (n max : ℕ) → max + 1 ≡ values_of width → bit_and n max ≡ n % values_of width
 and-max_value W n max is = let e : max ≡ 2 ^ 32 - 1 = omega arith in ap (bit_and n) e ∙ and_mask n 32

@@ -4,7 +4,7 @@ use Rattle.std.proofs.lemmas.List.{drop-replicate, length-replicate}
 use Rattle.std.proofs.Math.Seq.{take-append_seam, drop-append_seam}
 use Rattle.std.proofs.lemmas.Bool.Decides.{nat_tests}
 use Rattle.scm_sequences.specs.declared.limits.TheConstants.{LONGEST_NAME}
-use Rattle.scm_cells.specs.Names.{is_name, IsPaddedName}
+use Rattle.scm_cells.specs.CellLists.{is_name, IsPaddedName}
 
 pub length-le-is_name : (word : List ℕ) → IsTrue (is_name word) → length word ≤ LONGEST_NAME
 length-le-is_name word h = grind (arith, nat_tests)

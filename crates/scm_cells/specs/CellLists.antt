@@ -1,15 +1,50 @@
--- The cells of a trace, in the order of their declaration.
-use Rattle.std.specs.Prelude.{ℕ, ◌<◌, ◌≤◌, ◌≢◌, List, length, map, All, AllPairs, ◌||◌, nat_le, if◌then◌else◌, Option, None, Some, IfSome, option_map, position}
+-- Names, what cells hold at first, and the cells of a trace in their order. This project's profile.
+use Rattle.std.specs.Prelude.{◌≡◌, ◌≤◌, ℕ, ◌-◌, List, length, take, drop, replicate, Bool, ◌&&◌, ◌||◌, ◌==◌, nat_le, IsTrue, codes, nat_eq, if◌then◌else◌, Option, None, Some, option_map, ◌<◌, ◌≢◌, map, All, AllPairs, IfSome, position}
+use Rattle.std.specs.List.{list_all, list_any}
+use Rattle.std.specs.Cmp.Lexicographic.{pointwise}
+use Rattle.scm_sequences.specs.declared.limits.TheConstants.{LONGEST_NAME, MOST_CELLS}
+use Rattle.scm_cells.specs.declared.initial.Initial.{Initial}
+use Rattle.scm_cells.specs.declared.initial.Initial.TheVariants.{Given, Unset}
+use Rattle.scm_cells.specs.declared.width.Width.{Width}
+use Rattle.scm_cells.specs.Numbers.{number_of_word, value_of_number, values_of}
 use Rattle.std.specs.Option.{option_map_or}
-use Rattle.std.specs.List.{list_any}
 use Rattle.scm_sequences.specs.declared.refusal.Refusal.{Refusal}
 use Rattle.scm_sequences.specs.declared.refusal.Refusal.TheVariants.{BadDeclaration}
-use Rattle.scm_sequences.specs.declared.limits.TheConstants.{MOST_CELLS}
-use Rattle.scm_cells.specs.declared.width.Width.{Width}
-use Rattle.scm_cells.specs.declared.initial.Initial.{Initial}
-use Rattle.scm_cells.specs.Names.{name_eq}
-use Rattle.scm_cells.specs.Widths.{values_of}
-use Rattle.scm_cells.specs.Initials.{first_contents}
+use Rattle.scm_cells.specs.declared.cells.CellProperties.{CellProperties}
+
+-- ---- names of traces, sessions and cells: 1 to LONGEST_NAME bytes of a-z 0-9 _ -. This project's profile.
+
+-- a small letter, a digit, '_' or '-'
+abbrev pub is_name_byte : ℕ → Bool
+is_name_byte b = (nat_le 97 b && nat_le b 122) || (nat_le 48 b && nat_le b 57) || b == 95 || b == 45
+
+abbrev pub is_name : List ℕ → Bool
+is_name word = nat_le 1 (length word) && nat_le (length word) LONGEST_NAME && list_all is_name_byte word
+
+-- whether two names are the same bytes
+abbrev pub name_eq : List ℕ → List ℕ → Bool
+name_eq = pointwise ◌==◌
+
+-- these bytes are a name of this length, and zeros from its end to LONGEST_NAME
+pub record IsPaddedName (bytes : List ℕ) (len : ℕ) : Type 0 where
+  pub room : length bytes ≡ LONGEST_NAME
+  pub fits : len ≤ LONGEST_NAME
+  pub rest : drop len bytes ≡ replicate (LONGEST_NAME - len) 0
+  pub name : IsTrue (is_name (take len bytes))
+
+-- ---- what a cell is declared to hold at first: a number, or '?' where that isn't known. This project's profile.
+
+-- the word '?' alone leaves a cell unset; any other must be a number
+abbrev pub initial_of_word : List ℕ → Option Initial
+initial_of_word word =
+    if pointwise nat_eq word (codes "?") then Some Unset else option_map Given (number_of_word word)
+
+-- what a cell of this width holds at first, None where it is unset; there is no answer where a given number doesn't fit
+abbrev pub first_contents : Width → Initial → Option (Option ℕ)
+first_contents width (Given number) = option_map Some (value_of_number width number)
+first_contents width Unset = Some None
+
+-- ---- the cells of a trace, in the order of their declaration.
 
 -- a cell's name, its width, and what it holds at first, None where that is open
 pub record Declared : Type 0 where
@@ -45,3 +80,9 @@ pub record AreCells (cells : List Declared) : Type 0 where
   pub most : length cells ≤ MOST_CELLS
   pub different : AllPairs (λ a b. a.name ≢ b.name) cells
   pub values : All HasValueInWidth cells
+
+-- ---- the entries of a map from names, as cells.
+
+-- the cells of these entries, in their order
+abbrev pub cells_in : List (List ℕ × CellProperties) → List Declared
+cells_in entries = map (λ e. record { name = e.0; width = e.1.width; initial = e.1.initial }) entries

@@ -1,9 +1,4 @@
-pub mod laws
-pub mod Names
-pub mod Widths
 pub mod Numbers
-pub mod Initials
-pub mod Digits
 pub mod CellLists
-pub mod CellEntries
-pub use Rattle.scm_sequences.specs.Refusals
+pub mod laws
+pub use Rattle.scm_sequences.specs.Sequences

@@ -1,12 +1,26 @@
--- The words that stand for counts and numbers, and the value of a number in a cell. This project's profile.
-use Rattle.std.specs.Prelude.{ℕ, ◌+◌, ◌-◌, ◌*◌, ◌%◌, ◌^◌, min, List, length, drop, codes, Bool, false, ◌&&◌, ◌||◌, nat_le, nat_lt, nat_eq, if◌then◌else◌, Option, None, Some, fold}
+-- Numbers of a width, as words have them and as digits. This project's profile.
+use Rattle.std.specs.Prelude.{ℕ, ◌^◌, ◌+◌, ◌-◌, ◌*◌, ◌%◌, min, List, length, drop, codes, Bool, false, ◌&&◌, ◌||◌, nat_le, nat_lt, nat_eq, if◌then◌else◌, Option, None, Some, fold}
+use Rattle.scm_cells.specs.declared.width.Width.{Width}
+use Rattle.scm_cells.specs.declared.width.Width.TheVariants.{W, D}
 use Rattle.std.specs.Option.{option_map}
 use Rattle.std.specs.List.{list_all, starts_with}
 use Rattle.scm_cells.specs.declared.number.Num.{Num}
 use Rattle.scm_cells.specs.declared.number.Num.TheVariants.{Plain, Negative, Beyond}
-use Rattle.scm_cells.specs.declared.width.Width.{Width}
-use Rattle.scm_cells.specs.declared.width.Width.TheVariants.{W, D}
-use Rattle.scm_cells.specs.Widths.{values_of}
+use Rattle.scm_cells.specs.declared.digits.Base.{Base}
+use Rattle.scm_cells.specs.declared.digits.Base.TheVariants.{Decimal, Hexadecimal}
+
+-- ---- the widths of cells. A value of w bits is a number from 0 to 2^w - 1.
+-- (RISC-V Unprivileged ISA 20191213: words of 32 bits and doublewords of 64.)
+
+abbrev pub bits_of : Width → ℕ
+bits_of W = 32
+bits_of D = 64
+
+-- how many values a cell of this width can hold
+abbrev pub values_of : Width → ℕ
+values_of w = 2 ^ bits_of w
+
+-- ---- the words that stand for counts and numbers, and the value of a number in a cell. This project's profile.
 
 abbrev pub is_digit : ℕ → Bool
 is_digit b = nat_le 48 b && nat_le b 57
@@ -60,3 +74,30 @@ value_of_number w (Plain n) =
 value_of_number w (Negative m) =
     if nat_le (2 * m) (values_of w) then Some ((values_of w - m) % values_of w) else None
 value_of_number w Beyond = None
+
+-- ---- words of digits in a base of either kind, for the one loop that reads both.
+
+abbrev pub radix_of : Base → ℕ
+radix_of Decimal = 10
+radix_of Hexadecimal = 16
+
+abbrev pub is_digit_of : Base → ℕ → Bool
+is_digit_of Decimal b = is_digit b
+is_digit_of Hexadecimal b = is_hex_digit b
+
+abbrev pub digit_value_in : Base → ℕ → ℕ
+digit_value_in Decimal b = b - 48
+digit_value_in Hexadecimal b = hex_digit_value b
+
+-- the number whose digits are those of n and this one
+abbrev pub with_digit : Base → ℕ → ℕ → ℕ
+with_digit base n b = n * radix_of base + digit_value_in base b
+
+-- the number that one or more digits stand for
+abbrev pub number_of_digits : Base → List ℕ → Option ℕ
+number_of_digits base word =
+    if nat_lt 0 (length word) && list_all (is_digit_of base) word then Some (fold (with_digit base) 0 word) else None
+
+-- the number, where 64 bits hold it
+abbrev pub held : ℕ → Option ℕ
+held n = if nat_lt n (2 ^ 64) then Some n else None

@@ -1,7 +1,7 @@
 //! The cells of a trace.
 ghost use Rattle.std.specs.Prelude.{◌≡◌, ◌↔◌, IsTrue, ◌<◌, None, [], ◌∷◌, ◌++◌, length, map, slice_get, IfOk, IfErr, OnOk, OnErr, IsSomeAnd};
 ghost use Rattle.indexmap.specs.IndexMap.{values};
-ghost use Rattle.scm_sequences.specs.Refusals.{Refuses};
+ghost use Rattle.scm_sequences.specs.Sequences.{Refuses};
 ghost use Rattle.scm_cells.specs.CellLists.{add_refusal, cell_named, declared_cell, initials_of, AreCells};
 
 use crate::{Initial, Name, Width};
@@ -27,8 +27,7 @@ struct CellProperties {
 
 impl Model for Cells {
     ghost use Rattle.std.specs.Prelude.{List};
-    ghost use Rattle.scm_cells.specs.CellLists.{Declared, AreCells};
-    ghost use Rattle.scm_cells.specs.CellEntries.{cells_in};
+    ghost use Rattle.scm_cells.specs.CellLists.{Declared, AreCells, cells_in};
 
     ghost Value = { List Declared };
 

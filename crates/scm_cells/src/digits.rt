@@ -1,6 +1,6 @@
 //! Words of digits.
 ghost use Rattle.std.specs.Prelude.{◌≡◌, ℕ, ◌+◌, ◌*◌, IsTrue, SomeIff, option_map};
-ghost use Rattle.scm_cells.specs.Digits.{radix_of, is_digit_of, digit_value_in, number_of_digits, held};
+ghost use Rattle.scm_cells.specs.Numbers.{radix_of, is_digit_of, digit_value_in, number_of_digits, held};
 
 /// The base of a number's digits.
 #[derive(Clone, Copy)]

@@ -2,7 +2,7 @@
 ghost use Rattle.std.specs.Prelude.{◌≡◌};
 ghost use Rattle.std.specs.Option.{ok_or};
 ghost use Rattle.scm_sequences.specs.declared.refusal.Refusal.TheVariants.{ValueOutOfRange};
-ghost use Rattle.scm_cells.specs.Initials.{initial_of_word, first_contents};
+ghost use Rattle.scm_cells.specs.CellLists.{initial_of_word, first_contents};
 
 use crate::{Num, Width, narrow, read_num};
 use scm_sequences::Refusal;

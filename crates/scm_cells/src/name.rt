@@ -5,7 +5,7 @@ ghost use Rattle.std.specs.Cmp.Lexicographic.{nat_list_eq_equiv};
 ghost use Rattle.std.specs.Hash as fed;
 ghost use Rattle.std.specs.List.{list_all};
 ghost use Rattle.std.proofs.Common.{ap};
-ghost use Rattle.scm_cells.specs.Names.{is_name, is_name_byte, name_eq};
+ghost use Rattle.scm_cells.specs.CellLists.{is_name, is_name_byte, name_eq};
 ghost use Rattle.scm_cells.specs.laws.NameLaws.{name_eq-Decides};
 
 use scm_sequences::LONGEST_NAME;
@@ -24,7 +24,7 @@ pub struct Name {
 impl Model for Name {
     ghost use Rattle.std.specs.Prelude.{ℕ, List, length, take, ◌++◌, ◌-◌, replicate};
     ghost use Rattle.scm_sequences.specs.declared.limits.TheConstants.{LONGEST_NAME};
-    ghost use Rattle.scm_cells.specs.Names.{IsPaddedName};
+    ghost use Rattle.scm_cells.specs.CellLists.{IsPaddedName};
     ghost use Rattle.scm_cells.specs.laws.NameLaws.{length-padded, take-padded};
 
     ghost Value = { List ℕ };

@@ -1,6 +1,6 @@
 //! The widths of cells.
 ghost use Rattle.std.specs.Prelude.{◌≡◌, ◌+◌};
-ghost use Rattle.scm_cells.specs.Widths.{values_of};
+ghost use Rattle.scm_cells.specs.Numbers.{values_of};
 
 /// How wide a cell is: 32 bits (`W`, a word) or 64 bits (`D`, a doubleword).
 #[derive(Clone, Copy, Debug, PartialEq, Eq, Hash)]

@@ -1,14 +1,11 @@
 //! What a handle stands for.
 ghost use Rattle.std.specs.Prelude.{◌≡◌, ◌≢◌, OnOk, option_copied};
-ghost use Rattle.scm_book.specs.Calls.{call_data, reply_data};
-ghost use Rattle.scm_embed.specs.Calls.{IsNewMonitor, HoldsReply, MakesCallWithCode, OpensAt, CallsAt, ReportsAt};
-ghost use Rattle.scm_embed.specs.Codes.{reply_code};
-ghost use Rattle.scm_embed.specs.Reading.{NamesAt, CountsAt, ReadsAt, TellsPiece};
-ghost use Rattle.scm_sessions.specs.Lines.{line_given, line_of};
-ghost use Rattle.scm_sessions.specs.Asking.{asked_by};
-ghost use Rattle.scm_sessions.specs.Script.{AnswersCall};
-ghost use Rattle.scm_sessions.specs.Answering.{AnswersWith};
-ghost use Rattle.scm_sessions.specs.Replies.{answer_text};
+ghost use Rattle.scm_book.specs.Machine.{call_data, reply_data};
+ghost use Rattle.scm_embed.specs.Exports.{IsNewMonitor, HoldsReply, MakesCallWithCode, OpensAt, CallsAt, ReportsAt, reply_code};
+ghost use Rattle.scm_embed.specs.Evidence.{NamesAt, CountsAt, ReadsAt, TellsPiece};
+ghost use Rattle.scm_sessions.specs.Asking.{line_given, line_of, asked_by};
+ghost use Rattle.scm_sessions.specs.Script.{AnswersCall, answer_text};
+ghost use Rattle.scm_sessions.specs.inner.Answering.{AnswersWith};
 
 use crate::calls::{access_of, call_of};
 use crate::codes::{BAD_NUMBER, DONE, NO_EVIDENCE, NO_MEMORY, STILL_OPEN, code_of};

@@ -1,7 +1,7 @@
 //! The accesses and calls that numbers stand for.
 ghost use Rattle.std.specs.Prelude.{◌≡◌, option_map};
-ghost use Rattle.scm_book.specs.Calls.{call_data};
-ghost use Rattle.scm_embed.specs.Calls.{access_of_kind, call_of_kind};
+ghost use Rattle.scm_book.specs.Machine.{call_data};
+ghost use Rattle.scm_embed.specs.Exports.{access_of_kind, call_of_kind};
 
 use scm_amo::at;
 use scm_book::Call;

@@ -1,7 +1,7 @@
 //! The numbers that the exported calls answer.
 ghost use Rattle.std.specs.Prelude.{◌≡◌};
-ghost use Rattle.scm_book.specs.Calls.{reply_data};
-ghost use Rattle.scm_embed.specs.Codes.{reply_code};
+ghost use Rattle.scm_book.specs.Machine.{reply_data};
+ghost use Rattle.scm_embed.specs.Exports.{reply_code};
 
 use scm_book::Reply;
 

@@ -1,6 +1,6 @@
 //! The evidence of a reply, number by number: a schedule and its fixed values, or a refutation of either kind.
 ghost use Rattle.std.specs.Prelude.{◌≡◌, ◌∷◌, [], length, map, slice_get, option_map};
-ghost use Rattle.scm_book.specs.Calls.{reply_data};
+ghost use Rattle.scm_book.specs.Machine.{reply_data};
 ghost use Rattle.scm_embed.specs.Evidence.{rows_of, piece_at, number_row, fixed_row, counts_row, contents_row};
 
 use crate::lines::{hint_piece, line_piece};

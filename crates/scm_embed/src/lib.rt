@@ -12,9 +12,8 @@ mod slot;
 
 ghost use Rattle.std.specs.Prelude.{◌≡◌, ◌≢◌, None, Some, is_some};
 ghost use Rattle.std.specs.Option.{option_map};
-ghost use Rattle.scm_embed.specs.Calls.{CallsAt, OpensAt, ReportsAt};
-ghost use Rattle.scm_embed.specs.Exports.{HoldsAnswer, GivesText, KeepsAll, MakesHeld, OnHeld};
-ghost use Rattle.scm_embed.specs.Reading.{CountsAt, NamesAt, ReadsAt};
+ghost use Rattle.scm_embed.specs.Exports.{CallsAt, OpensAt, ReportsAt, HoldsAnswer, GivesText, KeepsAll, MakesHeld, OnHeld};
+ghost use Rattle.scm_embed.specs.Evidence.{CountsAt, NamesAt, ReadsAt};
 
 use answerer::Answerer;
 use codes::{CLOSED, DONE, NO_MEMORY, NO_ROOM};

@@ -1,6 +1,6 @@
 //! The names that numbers stand for.
 ghost use Rattle.std.specs.Prelude.{◌≡◌};
-ghost use Rattle.scm_embed.specs.Names.{place_of, GivesNumber};
+ghost use Rattle.scm_embed.specs.Exports.{place_of, GivesNumber};
 
 use scm_cells::Name;
 use scm_sequences::NoMemory;

@@ -1,6 +1,6 @@
 //! Cells as C declares them.
 ghost use Rattle.std.specs.Prelude.{◌≡◌, option_map, IfOk};
-ghost use Rattle.scm_embed.specs.Opening.{width_of_bits, initial_of_cell, declaration_of_cell, all_declarations, declarations_of};
+ghost use Rattle.scm_embed.specs.Exports.{width_of_bits, initial_of_cell, declaration_of_cell, all_declarations, declarations_of};
 
 use scm_book::Decl;
 use scm_cells::{Initial, Name, Num, Width};

@@ -5,7 +5,7 @@ use Rattle.std.specs.Option.{option_map}
 use Rattle.std.specs.Str.{bytes_eq}
 use Rattle.scm_cells.specs.declared.width.Width.TheVariants.{W, D}
 use Rattle.scm_cells.specs.declared.number.Num.{Num}
-use Rattle.scm_cells.specs.Names.{is_name}
+use Rattle.scm_cells.specs.CellLists.{is_name}
 use Rattle.scm_cells.specs.Numbers.{number_of_word}
 use Rattle.scm_amo.specs.Amos.{amo_of_name}
 use Rattle.scm_lowering.specs.declared.access.Access.{Access}

@@ -1,2 +1,2 @@
 pub mod MarkLists
-pub use Rattle.scm_sequences.specs.Refusals
+pub use Rattle.scm_sequences.specs.Sequences

@@ -1,7 +1,7 @@
 //! The marks of a trace.
 ghost use Rattle.std.specs.Prelude.{◌≡◌, ℕ, [], ◌∷◌, ◌++◌, ◌<◌, ◌≤◌, List, length, None, Ok, Err, IfOk, IfErr, OnOk, OnErr, MatchResult};
 ghost use Rattle.scm_sequences.specs.declared.limits.TheConstants.{MOST_MARKS};
-ghost use Rattle.scm_sequences.specs.Refusals.{Refuses};
+ghost use Rattle.scm_sequences.specs.Sequences.{Refuses};
 ghost use Rattle.scm_marks.specs.MarkLists.{mark_at, marks_up_to, set_refusal};
 
 use scm_sequences::{Lengths, MOST_MARKS, Refusal};

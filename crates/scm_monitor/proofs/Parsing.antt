@@ -6,7 +6,7 @@ use Rattle.clap.specs.Faults.{fault_of, walk_fault}
 use Rattle.clap.specs.Kinds.{Kinds}
 use Rattle.clap.specs.declared.error.kind.ErrorKind.TheVariants as kind
 use Rattle.clap.proofs.OnLiterals.{clap_on_literals}
-use Rattle.scm_monitor.specs.CommandLine.{WordComesFirst, IsHelp, IsVersion, command_line, options_of}
+use Rattle.scm_monitor.specs.Program.{WordComesFirst, IsHelp, IsVersion, command_line, options_of}
 
 cons≢nil : {X : Type 0} (x : X) (xs : List X) → x ∷ xs ≡ [] → ⊥
 cons≢nil {X = X} x xs e = true≢false (ap (λ (ys : List X). is_some (slice_get ys 0)) e)

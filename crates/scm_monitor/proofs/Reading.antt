@@ -5,7 +5,7 @@ use Rattle.std.specs.Str.{bytes_eq}
 use Rattle.std.proofs.lemmas.List.{take_all}
 use Rattle.clap.specs.Walk.{Text, texts}
 use Rattle.scm_monitor.specs.declared.switches.Switches.{Switches}
-use Rattle.scm_monitor.specs.CommandLine.{with_words, with_flag, with_workers, workers_of_word}
+use Rattle.scm_monitor.specs.Program.{with_words, with_flag, with_workers, workers_of_word}
 
 abbrev Words : Type 0
 Words = List (Bor Text)

@@ -5,7 +5,7 @@ use Rattle.scm_sessions.specs.declared.ended.Ended.{Ended}
 use Rattle.scm_sessions.specs.declared.fault.RunFault.{RunFault}
 use Rattle.scm_sessions.specs.declared.findings.Findings.{Findings}
 use Rattle.scm_monitor.specs.declared.settings.Options.{Options}
-use Rattle.scm_monitor.specs.Endings.{status_at_end, RunsShared, IsStatusOfRun}
+use Rattle.scm_monitor.specs.Program.{status_at_end, RunsShared, IsStatusOfRun}
 
 pub status_told : (script left written after : Option (List ℕ)) (options : Options) (found : Findings) (ended : Ended) → RunsShared options.each script left written after ended found → IsLegalBook ended.audit.book
     → (result : Result ℕ RunFault) → IfOk result (λ status. status ≡ status_at_end ended.audit.agreed options.check found) → IfOk result (IsStatusOfRun script left written options found)

@@ -1,3 +1,2 @@
-pub mod CommandLine
+pub mod Program
 pub mod Faults
-pub mod Endings

@@ -2,7 +2,7 @@
 ghost use Rattle.std.specs.Prelude.{◌≡◌, ◌⊎◌, ◌≤◌, false, None, Some, map, IfOk, IfErr, OnErr, IsErr, IsErrAnd};
 ghost use Rattle.clap.specs.Words.{app_of, kind_of, rule_of};
 ghost use Rattle.scm_monitor.specs.declared.settings.TheConstants.{MOST_WORKERS};
-ghost use Rattle.scm_monitor.specs.CommandLine.{check_rule, command_line, each_rule, help_rule, journal_rule, options_of, workers_rule, IsHelp, IsVersion, WordComesFirst};
+ghost use Rattle.scm_monitor.specs.Program.{check_rule, command_line, each_rule, help_rule, journal_rule, options_of, workers_rule, IsHelp, IsVersion, WordComesFirst};
 
 use crate::settings::Options;
 use crate::switches::read_options;

@@ -1,8 +1,8 @@
 //! How the program ends after a script that was run whole.
 ghost use Rattle.std.specs.Prelude.{◌≡◌, IfOk, IsTrue, false};
-ghost use Rattle.scm_monitor.specs.Endings.{status_at_end};
-ghost use Rattle.scm_sessions.specs.JournalText.{AreNamed};
-ghost use Rattle.scm_sessions.specs.Ports.{has_failed};
+ghost use Rattle.scm_monitor.specs.Program.{status_at_end};
+ghost use Rattle.scm_sessions.specs.inner.JournalText.{AreNamed};
+ghost use Rattle.scm_sessions.specs.Script.{has_failed};
 
 use crate::settings::Options;
 use scm_sessions::{Ended, Findings, Port, RunFault, write_journal};

@@ -2,8 +2,8 @@
 #![tactic(auto)]
 
 ghost use Rattle.std.specs.Prelude.{◌≡◌, false, IfOk};
-ghost use Rattle.scm_monitor.specs.Endings.{IsStatusOfRun};
-ghost use Rattle.scm_sessions.specs.Ports.{has_failed, inner_of};
+ghost use Rattle.scm_monitor.specs.Program.{IsStatusOfRun};
+ghost use Rattle.scm_sessions.specs.Script.{has_failed, inner_of};
 
 mod command_line;
 mod ending;

@@ -3,7 +3,7 @@ ghost use Rattle.std.specs.Prelude.{◌≡◌, ◌≤◌, [], ◌∷◌, IfSome}
 ghost use Rattle.clap.specs.Walk.{texts};
 ghost use Rattle.std.specs.Str.{bytes_eq};
 ghost use Rattle.scm_monitor.specs.declared.settings.TheConstants.{MOST_WORKERS};
-ghost use Rattle.scm_monitor.specs.CommandLine.{asked_for, nothing_asked, options_of, with_flag, with_words, with_workers, workers_of_word};
+ghost use Rattle.scm_monitor.specs.Program.{asked_for, nothing_asked, options_of, with_flag, with_words, with_workers, workers_of_word};
 
 use crate::settings::{DEFAULT_WORKERS, MOST_WORKERS, Options};
 use scm_cells::read_count;

@@ -5,8 +5,7 @@ use Rattle.std.proofs.lemmas.Bool.{cases_lt}
 use Rattle.std.proofs.lemmas.List.{drop_more, drop_all, length-take, length-drop, get_or-take, get_or-drop, take_rest}
 use Rattle.scm_orders.specs.declared.place.Place.{Place}
 use Rattle.scm_orders.specs.declared.derivation.Line.{Line}
-use Rattle.scm_orders.specs.Places.{IsUpTo}
-use Rattle.scm_orders.specs.Facts.{order_of, fact_at, Leads}
+use Rattle.scm_orders.specs.Facts.{IsUpTo, order_of, fact_at, Leads}
 
 -- ---- one after the other
 

@@ -1,10 +1,10 @@
 -- Moments in a front: each operation of the front has one of its own, and those of one process rise.
 use Rattle.std.proofs.Common.{ℕ, ◌≡◌, ◌≢◌, ◌+◌, ◌<◌, ◌≤◌, List, [], ◌∷◌, length, sym, ap, ap₂, ◌∙◌, subst, ⊎_elim, arith}
 use Rattle.std.proofs.lemmas.Bool.{cases_eq, cases_lt, cond-true, cond-false, lt-ltb, le-ltb}
-use Rattle.scm_sequences.specs.Fronts.{count_in}
+use Rattle.scm_sequences.specs.Traces.{count_in}
 use Rattle.scm_sequences.specs.laws.FrontLaws.{count_in-nil, count_in-here, count_in-other, count_in-earlier}
 use Rattle.scm_orders.specs.declared.place.Place.{Place}
-use Rattle.scm_orders.specs.Moments.{moment}
+use Rattle.scm_orders.specs.inner.Moments.{moment}
 
 abbrev pub place_of : ℕ → ℕ → Place
 place_of p k = record { process = p; at = k }

@@ -2,14 +2,13 @@
 use Rattle.std.proofs.Common.{ℕ, ◌≡◌, ◌≢◌, ◌<◌, ◌⊎◌, true, false, length, Option, None, Some, IsSome, option_and_then, refl, sym, ap, ap₂, ◌∙◌, subst, ⊎_elim, inl, inr}
 use Rattle.std.proofs.lemmas.Bool.{cases_eq}
 use Rattle.scm_sequences.specs.declared.op.Op.{Op}
-use Rattle.scm_sequences.specs.Ops.{cell_of, read_of, written_to}
-use Rattle.scm_sequences.specs.Sequences.{operations}
+use Rattle.scm_sequences.specs.Sequences.{cell_of, read_of, written_to, operations}
 use Rattle.scm_sequences.specs.laws.SequenceLaws.{process_within, operation_within}
 use Rattle.scm_sequences.specs.laws.FixedLaws.{read_of-other}
 use Rattle.scm_sequences.specs.Traces.{Trace}
 use Rattle.scm_orders.specs.declared.place.Place.{Place}
 use Rattle.scm_orders.specs.declared.cut_trace.Reading.{Reading}
-use Rattle.scm_orders.specs.Places.{operation_at, read_at, written_at, IsReading}
+use Rattle.scm_orders.specs.Facts.{operation_at, read_at, written_at, IsReading}
 
 -- what `IsSome` says of nothing
 pub none_is : false ≡ true → ⊥

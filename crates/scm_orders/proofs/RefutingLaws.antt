@@ -4,18 +4,14 @@ use Rattle.std.proofs.Common.{ℕ, zero, suc, ◌≡◌, ◌+◌, ◌-◌, ◌<�
 use Rattle.std.proofs.lemmas.Bool.{cases_lt}
 use Rattle.std.proofs.lemmas.List.{length-take, length-drop, get_or-take, get_or-drop}
 use Rattle.std.proofs.lemmas.Option.{get_or_from_slice_get, slice_get_within, slice_get-get_or}
-use Rattle.scm_sequences.specs.Traces.{Trace}
-use Rattle.scm_sequences.specs.Fronts.{IsSchedule, IsConsistent}
+use Rattle.scm_sequences.specs.Traces.{Trace, IsSchedule, IsConsistent}
 use Rattle.scm_orders.specs.declared.derivation.Fact.{Fact}
 use Rattle.scm_orders.specs.declared.derivation.Line.{Line}
 use Rattle.scm_orders.specs.declared.derivation.Rule.{Rule}
 use Rattle.scm_orders.specs.declared.derivation.Rule.TheVariants.{Joined, Hidden as HiddenBy, Source, AfterAll, BeforeAll, AfterSource, Assumed, Lemma}
-use Rattle.scm_orders.specs.Facts.{IsContradiction}
-use Rattle.scm_orders.specs.Moments.{Says, AssumptionsHold}
-use Rattle.scm_orders.specs.Blocks.{IsAssumed, opened, IsBehind, IsVisible}
-use Rattle.scm_orders.specs.Lemmas.{Assumes, LeavesOne, IsLemma}
-use Rattle.scm_orders.specs.Following.{IsOf, FollowsBy, Follows}
-use Rattle.scm_orders.specs.Refuting.{hints_of, AllFollow, IsEnd, OrdersRefute}
+use Rattle.scm_orders.specs.Facts.{IsContradiction, IsAssumed, opened, IsBehind, IsVisible}
+use Rattle.scm_orders.specs.inner.Moments.{Says, AssumptionsHold}
+use Rattle.scm_orders.specs.Refuting.{Assumes, LeavesOne, IsLemma, IsOf, FollowsBy, Follows, hints_of, AllFollow, IsEnd, OrdersRefute}
 use Rattle.scm_orders.proofs.PlaceLaws.{none_is}
 use Rattle.scm_orders.proofs.RuleLaws.{Holds, AreKnown, drawn, lemma_rule, contradicts}
 

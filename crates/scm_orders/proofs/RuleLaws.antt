@@ -4,11 +4,9 @@ use Rattle.std.specs.Option.{option_or, option_map}
 use Rattle.std.proofs.lemmas.Bool.{cases_lt}
 use borrow.Author.Count.{below_more}
 use Rattle.scm_sequences.specs.declared.op.Op.{Op}
-use Rattle.scm_sequences.specs.Ops.{read_of, written_to}
-use Rattle.scm_sequences.specs.Sequences.{operations, lengths_of}
+use Rattle.scm_sequences.specs.Sequences.{read_of, written_to, operations, lengths_of}
 use Rattle.scm_sequences.specs.laws.SequenceLaws.{operation_within, process_within, slice_index-lengths_of}
-use Rattle.scm_sequences.specs.Traces.{Trace, initial_of}
-use Rattle.scm_sequences.specs.Fronts.{count_in, counts_of, first_read, IsSchedule}
+use Rattle.scm_sequences.specs.Traces.{Trace, initial_of, count_in, counts_of, first_read, IsSchedule}
 use Rattle.scm_sequences.specs.laws.FrontLaws.{slice_index-counts_of}
 use Rattle.scm_orders.specs.declared.place.Place.{Place}
 use Rattle.scm_orders.specs.declared.cut_trace.Reading.{Reading}
@@ -19,12 +17,9 @@ use Rattle.scm_orders.specs.declared.derivation.Rule.{Rule}
 use Rattle.scm_orders.specs.declared.derivation.Rule.TheVariants.{Joined, Hidden as HiddenBy, Source, AfterAll, BeforeAll, AfterSource, Assumed, Lemma}
 use Rattle.scm_orders.specs.declared.candidates.Left.{Left}
 use Rattle.scm_orders.specs.declared.candidates.Left.TheVariants.{Write, First, After, Before as Until}
-use Rattle.scm_orders.specs.Places.{IsUpTo, IsEarlier, operation_at, read_at, written_at, ReadsOther, WritesWhatIsRead}
-use Rattle.scm_orders.specs.Facts.{order_of, Shows, IsContradiction, fact_at, SomeHint, IsBefore, Leads, IsJoined}
-use Rattle.scm_orders.specs.Moments.{moment, IsLastBefore, HasNoneBefore, HasWriteBetween, ReadsCell, Says}
-use Rattle.scm_orders.specs.Candidates.{Overwrites, Denies, RulesOut, DeniesFirst, RulesOutFirst, HasFirst, Has, HasBy, LeavesOnly, Leaves}
-use Rattle.scm_orders.specs.Following.{IsHidden, IsBeforeAll, HasReader, IsOrdered, IsHiddenBy, IsDrawn, IsOf}
-use Rattle.scm_orders.specs.Lemmas.{Negates, Implies, IsMet, Assumes, LeavesOne, hints_near}
+use Rattle.scm_orders.specs.Facts.{IsUpTo, IsEarlier, operation_at, read_at, written_at, ReadsOther, WritesWhatIsRead, order_of, Shows, IsContradiction, fact_at, SomeHint, IsBefore, Leads, IsJoined}
+use Rattle.scm_orders.specs.inner.Moments.{moment, IsLastBefore, HasNoneBefore, HasWriteBetween, ReadsCell, Says}
+use Rattle.scm_orders.specs.Refuting.{Overwrites, Denies, RulesOut, DeniesFirst, RulesOutFirst, HasFirst, Has, HasBy, LeavesOnly, Leaves, IsHidden, IsBeforeAll, HasReader, IsOrdered, IsHiddenBy, IsDrawn, IsOf, Negates, Implies, IsMet, Assumes, LeavesOne, hints_near}
 use Rattle.scm_orders.proofs.PlaceLaws.{none_is, is_some_at, some_first, one_cell, same_place, reads_or_not}
 use Rattle.scm_orders.proofs.HintLaws.{any_taken, any_dropped}
 use Rattle.scm_orders.proofs.MomentLaws.{place_of, IsIn, moment-injective, moment-rises}

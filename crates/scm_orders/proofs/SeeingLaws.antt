@@ -4,13 +4,12 @@ use Rattle.std.specs.Option.{option_or, option_and_then}
 use Rattle.std.proofs.lemmas.Bool.{cases_eq, cases_lt, eq-eqb, ne_eqb, eqb-true}
 use Rattle.scm_sequences.specs.declared.op.Op.{Op}
 use Rattle.scm_sequences.specs.declared.op.Op.TheVariants.{R, W, Rw}
-use Rattle.scm_sequences.specs.Ops.{cell_of, read_of, may_give, finds}
-use Rattle.scm_sequences.specs.Traces.{Trace, initial_of}
-use Rattle.scm_sequences.specs.Fronts.{count_in, following, last_written, first_read, value_before, IsLegal}
+use Rattle.scm_sequences.specs.Sequences.{cell_of, read_of, may_give, finds}
+use Rattle.scm_sequences.specs.Traces.{Trace, initial_of, count_in, following, last_written, first_read, value_before, IsLegal}
 use Rattle.scm_sequences.specs.laws.FrontLaws.{last_written-nil, last_written-step, first_read-step, value_before-is, IsLegal-earlier, IsLegal-operation, IsLegal-finds}
 use Rattle.scm_orders.specs.declared.place.Place.{Place}
-use Rattle.scm_orders.specs.Places.{read_at, written_at}
-use Rattle.scm_orders.specs.Moments.{moment}
+use Rattle.scm_orders.specs.Facts.{read_at, written_at}
+use Rattle.scm_orders.specs.inner.Moments.{moment}
 use Rattle.scm_orders.proofs.PlaceLaws.{none_is, is_some_at}
 use Rattle.scm_orders.proofs.MomentLaws.{place_of, IsIn, moment-earlier, moment-newest, IsIn-earlier, IsIn-newest, is_newest, moment-below}
 

@@ -1,12 +1,6 @@
-pub mod Places
 pub mod Facts
-pub mod Moments
-pub mod Candidates
-pub mod Blocks
-pub mod Lemmas
-pub mod Following
 pub mod Refuting
-pub use Rattle.scm_sequences.specs.Traces
-pub use Rattle.scm_sequences.specs.Fronts
-pub use Rattle.scm_sequences.specs.Ops
+pub mod inner
 pub mod laws
+pub use Rattle.scm_sequences.specs.Sequences
+pub use Rattle.scm_sequences.specs.Traces

@@ -1,6 +1,6 @@
 //! Blocks of lines.
 ghost use Rattle.std.specs.Prelude.{◌≡◌, ◌↔◌, IsTrue};
-ghost use Rattle.scm_orders.specs.Blocks.{IsAssumed, LeavesBlockOpen, GoesOn, IsPlaced, IsVisible, opened};
+ghost use Rattle.scm_orders.specs.Facts.{IsAssumed, LeavesBlockOpen, GoesOn, IsPlaced, IsVisible, opened};
 
 use crate::{Line, Rule};
 

@@ -1,9 +1,8 @@
 //! What a read can see, by the facts of hints.
 ghost use Rattle.std.specs.Prelude.{ℕ, ◌≢◌, ◌<◌, ◌⊎◌, ◌↔◌, IsTrue, IsSome, IsSomeAnd, MatchOption, length, ⊤};
 ghost use Rattle.scm_sequences.specs.Traces.{initial_of};
-ghost use Rattle.scm_orders.specs.Places.{WritesWhatIsRead};
-ghost use Rattle.scm_orders.specs.Facts.{fact_at as known_at, SomeHint};
-ghost use Rattle.scm_orders.specs.Candidates.{Overwrites, Denies, RulesOut, PutsWriteBefore, DeniesFirst, RulesOutFirst, IsRuledOut, IsRuledOutFirst, HasFirst, Has, HasBy, IsSettled, IsFirstSettled, LeavesOnly, Leaves};
+ghost use Rattle.scm_orders.specs.Facts.{WritesWhatIsRead, fact_at as known_at, SomeHint};
+ghost use Rattle.scm_orders.specs.Refuting.{Overwrites, Denies, RulesOut, PutsWriteBefore, DeniesFirst, RulesOutFirst, IsRuledOut, IsRuledOutFirst, HasFirst, Has, HasBy, IsSettled, IsFirstSettled, LeavesOnly, Leaves};
 
 use crate::cut_trace::{CutTrace, Reading};
 use crate::showing::{Basis, fact_at, shows};

@@ -1,10 +1,9 @@
 //! A trace cut to lengths, as it is asked about.
 ghost use Rattle.std.specs.Prelude.{ℕ, ◌≡◌, ◌≤◌, length, slice_index, None, MatchOption};
 ghost use Rattle.scm_sequences.specs.declared.limits.TheConstants.{MOST_OPERATIONS, MOST_PROCESSES};
-ghost use Rattle.scm_sequences.specs.Ops.{read_of as op_read_of, written_to as op_written_to};
-ghost use Rattle.scm_sequences.specs.Sequences.{operations};
+ghost use Rattle.scm_sequences.specs.Sequences.{read_of as op_read_of, written_to as op_written_to, operations};
 ghost use Rattle.scm_sequences.specs.Traces.{initial_of, trace_of, cut_to};
-ghost use Rattle.scm_orders.specs.Places.{operation_at, read_at, written_at, IsReading};
+ghost use Rattle.scm_orders.specs.Facts.{operation_at, read_at, written_at, IsReading};
 
 use crate::Place;
 use scm_sequences::{Lengths, Op, Sequences};

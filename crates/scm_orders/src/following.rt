@@ -1,7 +1,7 @@
 //! Whether a line follows from the trace and from earlier lines.
 ghost use Rattle.std.specs.Prelude.{◌↔◌, All, IsTrue, IsSomeAnd};
 ghost use Rattle.scm_orders.specs.Facts.{fact_at as known_at};
-ghost use Rattle.scm_orders.specs.Following.{Follows, CanBeNamed, FollowsBy, IsDrawn, HasFewHints, IsOf, AreOperations, IsOrdered, IsHiddenBy, IsHidden, IsBeforeAll, IsWriteBefore, HasReader, IsAfterSource, IsSource};
+ghost use Rattle.scm_orders.specs.Refuting.{Follows, CanBeNamed, FollowsBy, IsDrawn, HasFewHints, IsOf, AreOperations, IsOrdered, IsHiddenBy, IsHidden, IsBeforeAll, IsWriteBefore, HasReader, IsAfterSource, IsSource};
 
 use crate::blocks::{is_placed, is_visible};
 use crate::candidates::{Left, leaves, writes_what_is_read};

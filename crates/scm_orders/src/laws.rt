@@ -1,9 +1,8 @@
 //! What lines say, as the contract of a function that does nothing.
 ghost use Rattle.std.specs.Prelude.{ℕ, ◌≡◌, None, List, All};
-ghost use Rattle.scm_sequences.specs.Traces.{Trace};
-ghost use Rattle.scm_sequences.specs.Fronts.{IsSchedule, IsConsistent};
+ghost use Rattle.scm_sequences.specs.Traces.{Trace, IsSchedule, IsConsistent};
 ghost use Rattle.scm_orders.specs.declared.derivation.Line.{Line};
-ghost use Rattle.scm_orders.specs.Moments.{Says, AssumptionsHold};
+ghost use Rattle.scm_orders.specs.inner.Moments.{Says, AssumptionsHold};
 ghost use Rattle.scm_orders.specs.Refuting.{AllFollow, OrdersRefute};
 
 /// The law of derivations: where each line follows from the trace and the lines before it, what a line says is so in every legal

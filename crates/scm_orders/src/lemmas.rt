@@ -1,7 +1,7 @@
 //! What is left of blocks that have ended.
 ghost use Rattle.std.specs.Prelude.{ℕ, ◌≡◌, ◌<◌, ◌↔◌, IsTrue, IsSomeAnd, slice_get, drop};
 ghost use Rattle.scm_orders.specs.Facts.{fact_at as known_at, SomeHint};
-ghost use Rattle.scm_orders.specs.Lemmas.{Negates, Implies, IsMet, Assumes, LeavesOne, IsLemma, hints_near as near};
+ghost use Rattle.scm_orders.specs.Refuting.{Negates, Implies, IsMet, Assumes, LeavesOne, IsLemma, hints_near as near};
 
 use crate::blocks::is_assumed;
 use crate::candidates::{is_ruled_out, is_ruled_out_first};

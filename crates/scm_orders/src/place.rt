@@ -1,6 +1,6 @@
 //! The places of operations.
 ghost use Rattle.std.specs.Prelude.{◌↔◌, IsTrue};
-ghost use Rattle.scm_orders.specs.Places.{IsUpTo, IsEarlier};
+ghost use Rattle.scm_orders.specs.Facts.{IsUpTo, IsEarlier};
 
 /// Where an operation stands: at this place of this process, both from 0.
 #[derive(Clone, Copy, Debug, PartialEq, Eq, Hash)]

@@ -1,7 +1,6 @@
 //! The test whether a derivation leaves a trace no schedule.
 ghost use Rattle.std.specs.Prelude.{◌<◌, ◌↔◌, IsTrue, length};
-ghost use Rattle.scm_sequences.specs.Traces.{cut_to, trace_of};
-ghost use Rattle.scm_sequences.specs.Fronts.{IsConsistent};
+ghost use Rattle.scm_sequences.specs.Traces.{cut_to, trace_of, IsConsistent};
 ghost use Rattle.scm_orders.specs.Refuting.{LineFollows, AllFollow, IsEnd, OrdersRefute};
 
 use crate::cut_trace::CutTrace;

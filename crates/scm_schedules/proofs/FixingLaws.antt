@@ -7,17 +7,14 @@ use Rattle.std.proofs.lemmas.List.{length-set, get_or-set_same, get_or-set_other
 use Rattle.std.proofs.lemmas.List.FromFn.{length-map-range_with_len, get_or-map-range_with_len, fill_by_all, map-range_with_len_more, length-range_with_len, get_or-range_with_len}
 use Rattle.std.proofs.lemmas.List.Elements.{filter_map-append, All-head, All-tail}
 use Rattle.scm_sequences.specs.declared.op.Op.{Op}
-use Rattle.scm_sequences.specs.Ops.{cell_of, read_of, NamesCellsBelow}
-use Rattle.scm_sequences.specs.Sequences.{operation}
+use Rattle.scm_sequences.specs.Sequences.{cell_of, read_of, NamesCellsBelow, operation}
 use Rattle.scm_sequences.specs.laws.SequenceLaws.{NamesCellsBelow-operation}
-use Rattle.scm_sequences.specs.Traces.{Trace}
-use Rattle.scm_sequences.specs.Fronts.{count_in, following, value_before, IsLegal}
+use Rattle.scm_sequences.specs.Traces.{Trace, count_in, following, value_before, IsLegal, fixed_value, fixed_values}
 use Rattle.scm_sequences.specs.laws.FrontLaws.{IsLegal-operation}
-use Rattle.scm_sequences.specs.FixedValues.{fixed_value, fixed_values}
 use Rattle.scm_sequences.specs.laws.FixedLaws.{fixed_value-nil, fixed_value-more, fixed_value-open, read_of-other}
-use Rattle.scm_frontier.specs.Situated.{Situated, situation_of}
+use Rattle.scm_frontier.specs.Situations.{Situated, situation_of}
 use Rattle.scm_frontier.specs.laws.StepLaws.{next_operation-situation_of, value_in-situation_of}
-use Rattle.scm_schedules.specs.Walks.{open_read_of}
+use Rattle.scm_schedules.specs.Refuting.{open_read_of}
 use Rattle.scm_schedules.proofs.FrontSteps.{EndsIn}
 use Rattle.scm_schedules.proofs.WalkLaws.{Walked, legal_next, reverse-take_more}
 

@@ -5,15 +5,12 @@ use Rattle.std.proofs.lemmas.Bool.{false≢true, eq-eqb, eqb-true}
 use Rattle.std.proofs.lemmas.List.{take-append-drop, take_more, take_all, reverse-append, ext_get_or}
 use Rattle.std.proofs.lemmas.List.FromFn.{length-range_with_len, get_or-range_with_len}
 use Rattle.std.proofs.lemmas.List.Sums.{AllPass-from_list_all, list_all-from_AllPass}
-use Rattle.scm_sequences.specs.Ops.{NamesCellsBelow}
-use Rattle.scm_sequences.specs.Sequences.{lengths_of}
-use Rattle.scm_sequences.specs.Traces.{Trace}
-use Rattle.scm_sequences.specs.Fronts.{IsLegal, IsSchedule}
+use Rattle.scm_sequences.specs.Sequences.{NamesCellsBelow, lengths_of}
+use Rattle.scm_sequences.specs.Traces.{Trace, IsLegal, IsSchedule}
 use Rattle.scm_sequences.specs.laws.FrontLaws.{IsLegal-start, IsLegal-suffix}
-use Rattle.scm_frontier.specs.Situated.{Situated, situation_of}
-use Rattle.scm_frontier.specs.Steps.{start_of}
+use Rattle.scm_frontier.specs.Situations.{Situated, situation_of, start_of}
 use Rattle.scm_frontier.specs.laws.StepLaws.{situation_of-start, counts-situation_of}
-use Rattle.scm_schedules.specs.Walks.{step_by}
+use Rattle.scm_schedules.specs.Refuting.{step_by}
 use Rattle.scm_schedules.proofs.FrontSteps.{EndsIn, step_by-some, step_by-none}
 
 -- the first n places are a legal front that leads to the situation

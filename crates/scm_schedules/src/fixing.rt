@@ -3,10 +3,8 @@ ghost use Rattle.std.specs.Prelude.{◌≡◌, ◌≤◌, length, map, filter_ma
 ghost use Rattle.std.specs.Option.{option_map};
 ghost use Rattle.std.specs.List.{range_with_len};
 ghost use Rattle.scm_sequences.specs.declared.limits.TheConstants.{MOST_CELLS};
-ghost use Rattle.scm_sequences.specs.Ops.{NamesCellsBelow};
-ghost use Rattle.scm_sequences.specs.Traces.{trace_of};
-ghost use Rattle.scm_sequences.specs.Fronts.{IsLegal};
-ghost use Rattle.scm_sequences.specs.FixedValues.{fixed_value, fixed_values};
+ghost use Rattle.scm_sequences.specs.Sequences.{NamesCellsBelow};
+ghost use Rattle.scm_sequences.specs.Traces.{trace_of, IsLegal, fixed_value, fixed_values};
 
 use crate::walk::Walk;
 use arrayvec::ArrayVec;

@@ -1,11 +1,8 @@
 //! The test whether a list of process numbers is a legal schedule.
 ghost use Rattle.std.specs.Prelude.{◌≤◌, ◌↔◌, length, reverse, IsTrue};
 ghost use Rattle.scm_sequences.specs.declared.limits.TheConstants.{MOST_CELLS};
-ghost use Rattle.scm_sequences.specs.Lengths.{IsWithin};
-ghost use Rattle.scm_sequences.specs.Ops.{NamesCellsBelow};
-ghost use Rattle.scm_sequences.specs.Sequences.{lengths_of};
-ghost use Rattle.scm_sequences.specs.Traces.{cut_to, trace_of};
-ghost use Rattle.scm_sequences.specs.Fronts.{IsSchedule};
+ghost use Rattle.scm_sequences.specs.Sequences.{IsWithin, NamesCellsBelow, lengths_of};
+ghost use Rattle.scm_sequences.specs.Traces.{cut_to, trace_of, IsSchedule};
 
 use crate::walk::Walk;
 use scm_sequences::{Lengths, Sequences};

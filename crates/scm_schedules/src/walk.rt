@@ -1,10 +1,9 @@
 //! A walk along a list of process numbers.
 ghost use Rattle.std.specs.Prelude.{◌≡◌, ◌-◌, ◌<◌, ◌≤◌, ◌^◌, ◌↔◌, length, IsTrue, MatchBool, None, Some, OnSome, option_and_then, slice_index};
 ghost use Rattle.scm_sequences.specs.declared.limits.TheConstants.{MOST_CELLS, MOST_PROCESSES};
-ghost use Rattle.scm_sequences.specs.Ops.{cell_of, NamesCellsBelow};
-ghost use Rattle.scm_sequences.specs.Sequences.{operation, cut_lists};
-ghost use Rattle.scm_frontier.specs.Steps.{start_of, step_of};
-ghost use Rattle.scm_schedules.specs.Walks.{step_by, open_read_of};
+ghost use Rattle.scm_sequences.specs.Sequences.{cell_of, NamesCellsBelow, operation, cut_lists};
+ghost use Rattle.scm_frontier.specs.Situations.{start_of, step_of};
+ghost use Rattle.scm_schedules.specs.Refuting.{step_by, open_read_of};
 
 use arrayvec::ArrayVec;
 use scm_sequences::{Lengths, MOST_CELLS, MOST_PROCESSES, Op, Sequences};
@@ -19,7 +18,7 @@ pub(crate) struct Walk {
 }
 
 impl Model for Walk {
-    ghost use Rattle.scm_frontier.specs.Situated.{Situated};
+    ghost use Rattle.scm_frontier.specs.Situations.{Situated};
 
     ghost Value = { Situated };
 

@@ -1,8 +1,3 @@
-pub mod laws
-pub mod Refusals
-pub mod Ops
-pub mod Lengths
 pub mod Sequences
 pub mod Traces
-pub mod Fronts
-pub mod FixedValues
+pub mod laws

@@ -1,8 +1,6 @@
 //! Laws of the definitions, each as the contract of a function that does nothing.
 ghost use Rattle.std.specs.Prelude.{ℕ, ◌<◌, ◌≤◌, ◌↔◌, List, length, slice_index};
-ghost use Rattle.scm_sequences.specs.Traces.{Trace, cut_to};
-ghost use Rattle.scm_sequences.specs.Fronts.{count_in, IsLegal, IsConsistent};
-ghost use Rattle.scm_sequences.specs.FixedValues.{fixed_values, given, Agrees, ReadsFit, ChosenFit};
+ghost use Rattle.scm_sequences.specs.Traces.{Trace, cut_to, count_in, IsLegal, IsConsistent, fixed_values, given, Agrees, ReadsFit, ChosenFit};
 
 /// The restriction law: a list is a legal front of the cut trace exactly where it is a legal front of the longer trace
 /// and its counts lie within the lengths.

@@ -1,7 +1,7 @@
 //! How many operations each process has.
 ghost use Rattle.std.specs.Prelude.{◌≡◌, ℕ, ◌<◌, ◌≤◌, ◌↔◌, List, length, slice_index, IsTrue};
 ghost use Rattle.scm_sequences.specs.declared.limits.TheConstants.{MOST_PROCESSES};
-ghost use Rattle.scm_sequences.specs.Lengths.{IsWithin};
+ghost use Rattle.scm_sequences.specs.Sequences.{IsWithin};
 
 use crate::MOST_PROCESSES;
 use smallvec::SmallVec;

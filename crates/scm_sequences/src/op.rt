@@ -1,6 +1,6 @@
 //! The operations of a process.
 ghost use Rattle.std.specs.Prelude.{◌≡◌};
-ghost use Rattle.scm_sequences.specs.Ops.{cell_of, finds, value_after};
+ghost use Rattle.scm_sequences.specs.Sequences.{cell_of, finds, value_after};
 
 /// A read that gave a value, a write of one, or both in one step, on the cell of a number.
 ///

@@ -1,6 +1,6 @@
 //! The refusals.
 ghost use Rattle.std.specs.Prelude.{◌≡◌};
-ghost use Rattle.scm_sequences.specs.Refusals.{refusal_number, refusal_text};
+ghost use Rattle.scm_sequences.specs.Sequences.{refusal_number, refusal_text};
 
 /// Why a call was refused, in the order of the refusals' numbers. The table is this project's profile.
 #[derive(Clone, Copy, Debug, PartialEq, Eq, Hash)]

@@ -1,10 +1,7 @@
 //! The sequences of operations of a trace, one for each process.
 ghost use Rattle.std.specs.Prelude.{◌≡◌, ◌<◌, ◌≤◌, ◌↔◌, List, length, replicate, [], IsTrue, IfOk, IfErr, OnOk, OnErr, All};
 ghost use Rattle.scm_sequences.specs.declared.limits.TheConstants.{MOST_OPERATIONS, MOST_PROCESSES};
-ghost use Rattle.scm_sequences.specs.Refusals.{Refuses};
-ghost use Rattle.scm_sequences.specs.Ops.{cell_of, NamesCellsBelow};
-ghost use Rattle.scm_sequences.specs.Lengths.{IsWithin};
-ghost use Rattle.scm_sequences.specs.Sequences.{operation, operations, pushed, lengths_of, push_refusal, cut_lists, AreSequences};
+ghost use Rattle.scm_sequences.specs.Sequences.{Refuses, cell_of, NamesCellsBelow, IsWithin, operation, operations, pushed, lengths_of, push_refusal, cut_lists, AreSequences};
 
 use crate::{Lengths, MOST_OPERATIONS, MOST_PROCESSES, NoMemory, Op, Refusal};
 use std::alloc::Global;

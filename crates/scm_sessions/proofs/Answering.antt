@@ -3,12 +3,11 @@ use Rattle.std.proofs.Common.{◌≡◌, ℕ, List, [], ◌∷◌, refl, sym, in
 use Rattle.scm_sequences.specs.declared.refusal.Refusal.TheVariants.{BadLine, NoMemory}
 use Rattle.scm_book.specs.declared.reply.Reply.{Reply}
 use Rattle.scm_book.specs.declared.reply.Reply.TheVariants.{Refused}
-use Rattle.scm_book.specs.Calls.{CallData, ReplyData, refused, reply_data}
+use Rattle.scm_book.specs.Machine.{CallData, ReplyData, refused, reply_data}
 use Rattle.scm_sessions.specs.declared.replies.Answer.{Answer}
 use Rattle.scm_sessions.specs.Asking.{AskedData, nothing, bad, good, name_in}
-use Rattle.scm_sessions.specs.Replies.{reply_line}
-use Rattle.scm_sessions.specs.Exchanges.{Exchange, exchange, has_reply, Answers}
-use Rattle.scm_sessions.specs.Answering.{AnswersWith}
+use Rattle.scm_sessions.specs.Script.{reply_line, Exchange, exchange, has_reply, Answers}
+use Rattle.scm_sessions.specs.inner.Answering.{AnswersWith}
 
 asked_alone : (asked : AskedData) → has_reply asked ≡ true → asked ∷ [] ≡ filter has_reply (asked ∷ [])
 asked_alone asked some = rw some refl

@@ -2,7 +2,7 @@
 use Rattle.std.proofs.Common.{◌≡◌, ◌≢◌, ℕ, ◌<◌, List, [], ◌∷◌, ◌++◌, length, map, refl, sym, ap, ◌∙◌, arith, ◌==◌, false, append_assoc, append-nil}
 use Rattle.std.proofs.lemmas.Bool.{ne_eqb}
 use Rattle.std.proofs.lemmas.List.Elements.{All-head, All-tail}
-use Rattle.scm_sessions.specs.Lines.{Line, onto_first, onto_whole, pieces_of, whole_pieces_of, line_of, lines_of, whole_lines_of, HasNoFeed}
+use Rattle.scm_sessions.specs.Asking.{Line, onto_first, onto_whole, pieces_of, whole_pieces_of, line_of, lines_of, whole_lines_of, HasNoFeed}
 
 no_feed-head : (b : ℕ) (bytes : List ℕ) → HasNoFeed (b ∷ bytes) → b ≢ 10
 no_feed-head b bytes none = let P : ℕ → Type 0 = λ x. x ≢ 10 in All-head P b bytes none

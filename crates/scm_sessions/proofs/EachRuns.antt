@@ -3,22 +3,21 @@ use Rattle.std.proofs.Common.{◌≡◌, ◌⊎◌, ℕ, suc, ◌+◌, List, [],
 use Rattle.std.proofs.Math.Seq.{take-append_seam}
 use Rattle.std.proofs.lemmas.List.Elements.{All-nil, All-cons}
 use Rattle.std.specs.Io.KnownBytes.{Consumes, Appends, IsAtEnd}
-use Rattle.scm_book.specs.Calls.{EntryData}
+use Rattle.scm_book.specs.Machine.{EntryData}
 use Rattle.scm_shared.specs.Passes.{Known}
-use Rattle.scm_shared.specs.Audits.{Agree}
+use Rattle.scm_shared.specs.inner.Audits.{Agree}
 use Rattle.scm_sessions.specs.declared.ended.Ended.{Ended}
-use Rattle.scm_sessions.specs.Lines.{Line, lines_of, whole_lines_of}
+use Rattle.scm_sessions.specs.Asking.{Line, lines_of, whole_lines_of}
 use Rattle.scm_sessions.specs.declared.findings.Findings.{Findings}
-use Rattle.scm_sessions.specs.Exchanges.{Exchange, has_reply, asked_of}
-use Rattle.scm_sessions.specs.Numbered.{Numbered, numbered_in, all_asked}
-use Rattle.scm_sessions.specs.Findings.{unanswered, found_in, with_findings}
-use Rattle.scm_sessions.specs.Ports.{AppendsPart}
-use Rattle.scm_sessions.specs.Callers.{callers, AreNumberedFrom, made_by}
-use Rattle.scm_sessions.specs.SharedRuns.{AllFit, IsSharedRun}
-use Rattle.scm_sessions.specs.JournalText.{AreNamed}
-use Rattle.scm_sessions.specs.Groups.{GroupData, groups_of, grouped, GroupsWhole, GroupsWholeLines}
-use Rattle.scm_sessions.specs.Jobs.{JobData, AreBegun, AllAnswered, jobs_text, entered_names, entered_passes, with_jobs, lines_in, replies_in}
-use Rattle.scm_sessions.specs.EachRuns.{group_findings_of, FindsGroups, RunsGroupsWholeLines, RunsGroupsPart}
+use Rattle.scm_sessions.specs.Script.{Exchange, has_reply, asked_of, AppendsPart}
+use Rattle.scm_sessions.specs.inner.Numbered.{Numbered, numbered_in, all_asked}
+use Rattle.scm_sessions.specs.inner.Findings.{unanswered, found_in, with_findings}
+use Rattle.scm_sessions.specs.inner.Callers.{callers, AreNumberedFrom, made_by}
+use Rattle.scm_sessions.specs.inner.SharedRuns.{AllFit, IsSharedRun}
+use Rattle.scm_sessions.specs.inner.JournalText.{AreNamed}
+use Rattle.scm_sessions.specs.inner.Groups.{GroupData, groups_of, grouped, GroupsWhole, GroupsWholeLines}
+use Rattle.scm_sessions.specs.inner.Jobs.{JobData, AreBegun, AllAnswered, jobs_text, entered_names, entered_passes, with_jobs, lines_in, replies_in}
+use Rattle.scm_sessions.specs.inner.EachRuns.{group_findings_of, FindsGroups, RunsGroupsWholeLines, RunsGroupsPart}
 use Rattle.scm_sessions.proofs.Sharing.{agreed_by, covered_named}
 use Rattle.scm_sessions.proofs.GroupNames.{AreOf, AreApart, groups_apart}
 use Rattle.scm_sessions.proofs.Merging.{asked_lines, found_grouped}

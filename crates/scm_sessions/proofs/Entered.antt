@@ -2,7 +2,7 @@
 use Rattle.std.proofs.Common.{◌≡◌, ℕ, ◌≤◌, ◌<◌, List, [], ◌∷◌, ◌++◌, length, ap, ◌∙◌, arith, length-append, Option, None, Some}
 use Rattle.std.proofs.lemmas.List.{flat_map_more}
 use Rattle.scm_shared.specs.Passes.{Known}
-use Rattle.scm_sessions.specs.Jobs.{JobData, names_in, passes_in, entered_names, entered_passes}
+use Rattle.scm_sessions.specs.inner.Jobs.{JobData, names_in, passes_in, entered_names, entered_passes}
 
 names_most : (name : Option (List ℕ)) (pass : Option Known) → length (names_in name pass) ≤ 1
 names_most None pass = omega arith

@@ -4,10 +4,10 @@ use Rattle.std.specs.List.{list_any, position_or_len}
 use Rattle.std.proofs.Math.Seq.{take-append_seam}
 use Rattle.std.proofs.lemmas.Bool.{or_parts}
 use Rattle.scm_sequences.specs.declared.limits.TheConstants.{MOST_SESSIONS}
-use Rattle.scm_cells.specs.Names.{name_eq}
+use Rattle.scm_cells.specs.CellLists.{name_eq}
 use Rattle.scm_shared.specs.Passes.{Known, newcomer}
 use Rattle.scm_sessions.specs.Script.{session_of, is_entered, with_name, is_turned_away}
-use Rattle.scm_sessions.specs.Callers.{callers, AreNumberedFrom, made_by}
+use Rattle.scm_sessions.specs.inner.Callers.{callers, AreNumberedFrom, made_by}
 use Rattle.scm_sessions.proofs.Entering.{with_name_within}
 use Rattle.scm_sessions.proofs.Naming.{found_within, place_within}
 use Rattle.scm_sessions.proofs.Making.{made-push, numbered-push, name_eq-refl, first_session, next_session}

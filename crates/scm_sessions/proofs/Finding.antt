@@ -6,13 +6,12 @@ use Rattle.std.specs.Prelude.{slice_get, drop}
 use Rattle.std.proofs.lemmas.List.{map-append}
 use Rattle.std.proofs.lemmas.List.Folds.{list_any-append}
 use Rattle.scm_results.specs.Totals.{capped}
-use Rattle.scm_book.specs.Calls.{ReplyData}
+use Rattle.scm_book.specs.Machine.{ReplyData}
 use Rattle.scm_sessions.specs.declared.findings.Findings.{Findings}
 use Rattle.scm_sessions.specs.declared.findings.RefusedLine.{RefusedLine}
-use Rattle.scm_sessions.specs.Lines.{Line}
-use Rattle.scm_sessions.specs.Asking.{AskedData, asked_by}
-use Rattle.scm_sessions.specs.Exchanges.{Exchange, has_reply, asked_in, asked_of}
-use Rattle.scm_sessions.specs.Findings.{replies_of, numbers_from, refusal_of_reply, refused_line, first_refused, answers_inconsistent, answers_undecided, findings_of, with_answer}
+use Rattle.scm_sessions.specs.Asking.{Line, AskedData, asked_by}
+use Rattle.scm_sessions.specs.Script.{Exchange, has_reply, asked_in, asked_of}
+use Rattle.scm_sessions.specs.inner.Findings.{replies_of, numbers_from, refusal_of_reply, refused_line, first_refused, answers_inconsistent, answers_undecided, findings_of, with_answer}
 
 cons≢nil : {X : Type 0} (x : X) (xs : List X) → x ∷ xs ≡ [] → ⊥
 cons≢nil {X = X} x xs e = true≢false (ap (λ (ys : List X). is_some (slice_get ys 0)) e)

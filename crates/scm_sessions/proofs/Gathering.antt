@@ -12,8 +12,8 @@ use Rattle.std.specs.Io.BufRead.{strip_last}
 use Rattle.std.specs.Io.KnownBytes.{Consumes, Keeps, IsAtEnd, prepend_known}
 use Rattle.scm_sequences.specs.declared.limits.TheConstants.{LONGEST_LINE}
 use Rattle.scm_sessions.specs.declared.reading.Cut.TheVariants.{Whole, Last}
-use Rattle.scm_sessions.specs.Lines.{Line, too_long, text, line_of, HasNoFeed}
-use Rattle.scm_sessions.specs.Reading.{TakesLine}
+use Rattle.scm_sessions.specs.Asking.{Line, too_long, text, line_of, HasNoFeed}
+use Rattle.scm_sessions.specs.inner.Reading.{TakesLine}
 use Rattle.scm_sessions.proofs.Splitting.{position-none}
 
 -- since old a piece came in that has no line feed, and this is what is kept of it

@@ -6,20 +6,19 @@ use Rattle.std.proofs.lemmas.List.{map-append}
 use Rattle.std.proofs.lemmas.List.Elements.{All-nil, All-append}
 use Rattle.std.proofs.lemmas.Grind.{flat_map-append}
 use Rattle.std.proofs.lemmas.Bool.{or_parts}
-use Rattle.scm_cells.specs.Names.{name_eq}
-use Rattle.scm_book.specs.Calls.{CallData, ReplyData}
+use Rattle.scm_cells.specs.CellLists.{name_eq}
+use Rattle.scm_book.specs.Machine.{CallData, ReplyData}
 use Rattle.scm_shared.specs.Passes.{Known, newcomer}
 use Rattle.scm_sessions.specs.Asking.{AskedData, nothing, bad, good, name_in}
-use Rattle.scm_sessions.specs.Replies.{reply_line}
+use Rattle.scm_sessions.specs.Script.{reply_line, Exchange, asked_of, replies_text}
 use Rattle.scm_sessions.specs.declared.findings.Findings.{Findings}
-use Rattle.scm_sessions.specs.Exchanges.{Exchange, asked_of, replies_text}
-use Rattle.scm_sessions.specs.Numbered.{Numbered, numbered, all_asked}
-use Rattle.scm_sessions.specs.Findings.{replies_of, found_in, with_findings}
-use Rattle.scm_sessions.specs.SharedRuns.{FitsAsked, AllFit, became_entry, entry_in, entries_of}
-use Rattle.scm_sessions.specs.Callers.{callers, AreNumberedFrom, made_by}
-use Rattle.scm_sessions.specs.Gathered.{made_in, pass_number, entry_for}
-use Rattle.scm_sessions.specs.Groups.{GroupData, has_name}
-use Rattle.scm_sessions.specs.Jobs.{JobData, begun, is_call, AreBegun, entries_for, lines_in, exchanges_in, replies_in, AnsweredWhole, AllAnswered, job_text, jobs_text, names_in, passes_in, entered_names, entered_passes, with_jobs}
+use Rattle.scm_sessions.specs.inner.Numbered.{Numbered, numbered, all_asked}
+use Rattle.scm_sessions.specs.inner.Findings.{replies_of, found_in, with_findings}
+use Rattle.scm_sessions.specs.inner.SharedRuns.{FitsAsked, AllFit, became_entry, entry_in, entries_of}
+use Rattle.scm_sessions.specs.inner.Callers.{callers, AreNumberedFrom, made_by}
+use Rattle.scm_sessions.specs.inner.Gathered.{made_in, pass_number, entry_for}
+use Rattle.scm_sessions.specs.inner.Groups.{GroupData, has_name}
+use Rattle.scm_sessions.specs.inner.Jobs.{JobData, begun, is_call, AreBegun, entries_for, lines_in, exchanges_in, replies_in, AnsweredWhole, AllAnswered, job_text, jobs_text, names_in, passes_in, entered_names, entered_passes, with_jobs}
 use Rattle.scm_sessions.proofs.Grouping.{is_in}
 use Rattle.scm_sessions.proofs.Making.{same_name, name_eq-refl, made_first, made_next}
 use Rattle.scm_sessions.proofs.GroupNames.{AreOf, AreApart, same_option}

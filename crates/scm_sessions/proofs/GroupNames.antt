@@ -4,12 +4,11 @@ use Rattle.std.specs.Prelude.{⊤}
 use Rattle.std.specs.Option.{option_eq}
 use Rattle.std.proofs.lemmas.Bool.{both_ways, or_parts}
 use Rattle.std.proofs.lemmas.List.{map-append}
-use Rattle.scm_cells.specs.Names.{name_eq}
-use Rattle.scm_sessions.specs.Lines.{Line}
-use Rattle.scm_sessions.specs.Asking.{AskedData, name_in}
-use Rattle.scm_sessions.specs.Exchanges.{has_reply}
-use Rattle.scm_sessions.specs.Numbered.{Numbered, numbered_from, replied, numbered_in, all_asked}
-use Rattle.scm_sessions.specs.Groups.{GroupData, has_name, with_numbered, groups_of}
+use Rattle.scm_cells.specs.CellLists.{name_eq}
+use Rattle.scm_sessions.specs.Asking.{Line, AskedData, name_in}
+use Rattle.scm_sessions.specs.Script.{has_reply}
+use Rattle.scm_sessions.specs.inner.Numbered.{Numbered, numbered_from, replied, numbered_in, all_asked}
+use Rattle.scm_sessions.specs.inner.Groups.{GroupData, has_name, with_numbered, groups_of}
 use Rattle.scm_sessions.proofs.Grouping.{is_in, with_numbered-first, with_numbered-next}
 use Rattle.scm_sessions.proofs.Making.{same_name, name_eq-refl}
 

@@ -5,17 +5,16 @@ use Rattle.std.specs.Option.{option_eq}
 use Rattle.std.specs.Io.KnownBytes.{Consumes, Keeps, IsAtEnd, prepend_known}
 use Rattle.std.proofs.KnownBytes.{Consumes-nil, Consumes-trans, Consumes-kept, prepend_known-nil}
 use Rattle.std.proofs.lemmas.List.Elements.{filter-append}
-use Rattle.scm_cells.specs.Names.{name_eq}
+use Rattle.scm_cells.specs.CellLists.{name_eq}
 use Rattle.scm_results.specs.Totals.{capped}
 use Rattle.scm_sessions.specs.declared.reading.Cut.TheVariants.{Whole, Last}
-use Rattle.scm_sessions.specs.Lines.{Line, line_of, HasNoFeed}
+use Rattle.scm_sessions.specs.Asking.{Line, line_of, HasNoFeed, asked_by, name_in}
 use Rattle.scm_sessions.specs.declared.findings.Findings.{Findings}
-use Rattle.scm_sessions.specs.Asking.{asked_by, name_in}
-use Rattle.scm_sessions.specs.Exchanges.{has_reply}
-use Rattle.scm_sessions.specs.Numbered.{Numbered, numbered, numbered_from, numbered_in, replied}
-use Rattle.scm_sessions.specs.Findings.{unanswered, with_line}
-use Rattle.scm_sessions.specs.Reading.{TakesLine}
-use Rattle.scm_sessions.specs.Groups.{GroupData, group, has_name, with_numbered, groups_of, with_group, with_next, group_names, GroupsWhole, GroupsWholeLines}
+use Rattle.scm_sessions.specs.Script.{has_reply}
+use Rattle.scm_sessions.specs.inner.Numbered.{Numbered, numbered, numbered_from, numbered_in, replied}
+use Rattle.scm_sessions.specs.inner.Findings.{unanswered, with_line}
+use Rattle.scm_sessions.specs.inner.Reading.{TakesLine}
+use Rattle.scm_sessions.specs.inner.Groups.{GroupData, group, has_name, with_numbered, groups_of, with_group, with_next, group_names, GroupsWhole, GroupsWholeLines}
 use Rattle.scm_sessions.proofs.Cutting.{AreLines, AreLines-nil, AreLines-more, lines_of-end, lines_of-last, whole_lines_of-part}
 use Rattle.scm_sessions.proofs.Finding.{findings, capped_more}
 use Rattle.scm_sessions.proofs.Running.{end_after}

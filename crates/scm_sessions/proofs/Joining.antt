@@ -2,7 +2,7 @@
 use Rattle.std.proofs.Common.{◌≡◌, ℕ, ◌+◌, ◌<◌, List, [], ◌∷◌, ◌++◌, length, map, take, get_or, sym, ap, ◌∙◌, arith, append_assoc, append-nil, length-take, ◌==◌, Bool, false, if◌then◌else◌, codes}
 use Rattle.std.proofs.lemmas.Bool.{ne_eqb}
 use Rattle.std.proofs.lemmas.List.{length-map, take_more, get_or-map, flat_map_more}
-use Rattle.scm_sessions.specs.Replies.{joined, comma_after}
+use Rattle.scm_sessions.specs.Script.{joined, comma_after}
 
 joined_push : (texts : List (List ℕ)) (text : List ℕ) → (joined texts ++ comma_after (length texts)) ++ text ≡ joined (texts ++ text ∷ [])
 joined_push [] text = sym (append-nil text)

@@ -7,13 +7,13 @@ use Rattle.std.specs.Cmp.Lexicographic.{same_text, other_text}
 use Rattle.scm_sequences.specs.declared.limits.TheConstants.{MOST_SESSIONS}
 use Rattle.scm_sequences.specs.declared.refusal.Refusal.{Refusal}
 use Rattle.scm_sequences.specs.declared.refusal.Refusal.TheVariants.{BadLine, NoSuchTrace, NameTaken, TooManyTraces, BadDeclaration, NoSuchProcess, ProcessTaken, NotClaimed, NotOwner, NoSuchCell, WidthMismatch, ValueOutOfRange, SequenceFull, NoSuchMark, TooManyMarks, BadBudget, JournalFull, NoMemory, TooManySessions}
-use Rattle.scm_cells.specs.Names.{name_eq}
-use Rattle.scm_book.specs.Calls.{CallData, ReplyData, done, marked, consistent, inconsistent, undecided, because, cycle, unknown, ops, listed, refused}
+use Rattle.scm_cells.specs.CellLists.{name_eq}
+use Rattle.scm_book.specs.Machine.{CallData, ReplyData, done, marked, consistent, inconsistent, undecided, because, cycle, unknown, ops, listed, refused}
 use Rattle.scm_book.specs.Journal.{makes_entry}
 use Rattle.scm_shared.specs.Passes.{Known, newcomer, Extended, SeenFull}
 use Rattle.scm_sessions.specs.Script.{session_of}
-use Rattle.scm_sessions.specs.SharedRuns.{became_entry}
-use Rattle.scm_sessions.specs.Callers.{Callers, callers, AreNumberedFrom, made_by, MakesCall}
+use Rattle.scm_sessions.specs.inner.SharedRuns.{became_entry}
+use Rattle.scm_sessions.specs.inner.Callers.{Callers, callers, AreNumberedFrom, made_by, MakesCall}
 
 -- ---- names
 

@@ -5,16 +5,16 @@ use Rattle.std.proofs.lemmas.Bool.{leb-true, leb-false, le-leb, lt-leb}
 use Rattle.std.proofs.lemmas.List.{map-append}
 use Rattle.std.proofs.lemmas.List.Folds.{list_any-append}
 use Rattle.std.proofs.lemmas.List.Sums.{fold_more}
-use Rattle.scm_book.specs.Calls.{ReplyData}
+use Rattle.scm_book.specs.Machine.{ReplyData}
 use Rattle.scm_sessions.specs.declared.findings.Findings.{Findings}
 use Rattle.scm_sessions.specs.declared.findings.RefusedLine.{RefusedLine}
-use Rattle.scm_sessions.specs.Lines.{Line}
-use Rattle.scm_sessions.specs.Exchanges.{Exchange, asked_of}
-use Rattle.scm_sessions.specs.Numbered.{Numbered, numbered_in, all_asked, all_numbers}
-use Rattle.scm_sessions.specs.Findings.{replies_of, refused_line, answers_inconsistent, answers_undecided, earlier, earliest_refused, unanswered, found_in, with_findings}
-use Rattle.scm_sessions.specs.Groups.{grouped}
-use Rattle.scm_sessions.specs.Jobs.{JobData, with_jobs, lines_in, exchanges_in, replies_in}
-use Rattle.scm_sessions.specs.EachRuns.{group_findings_of}
+use Rattle.scm_sessions.specs.Asking.{Line}
+use Rattle.scm_sessions.specs.Script.{Exchange, asked_of}
+use Rattle.scm_sessions.specs.inner.Numbered.{Numbered, numbered_in, all_asked, all_numbers}
+use Rattle.scm_sessions.specs.inner.Findings.{replies_of, refused_line, answers_inconsistent, answers_undecided, earlier, earliest_refused, unanswered, found_in, with_findings}
+use Rattle.scm_sessions.specs.inner.Groups.{grouped}
+use Rattle.scm_sessions.specs.inner.Jobs.{JobData, with_jobs, lines_in, exchanges_in, replies_in}
+use Rattle.scm_sessions.specs.inner.EachRuns.{group_findings_of}
 use Rattle.scm_sessions.proofs.Finding.{same_findings, or_none}
 
 -- ---- the earlier one of two refused lines

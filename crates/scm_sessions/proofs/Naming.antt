@@ -2,15 +2,14 @@
 use Rattle.std.proofs.Common.{◌≡◌, inl, inr, ℕ, ◌<◌, ◌≤◌, List, [], ◌∷◌, ◌++◌, length, refl, sym, ap₂, subst, arith, Bool, true, false, Option, MatchBool, if◌then◌else◌, length-append}
 use Rattle.std.proofs.lemmas.List.Elements.{All-nil, All-push, All-weaker}
 use Rattle.std.specs.List.{list_any, position_or_len}
-use Rattle.scm_cells.specs.Names.{name_eq}
-use Rattle.scm_book.specs.Calls.{CallData, ReplyData, EntryData}
+use Rattle.scm_cells.specs.CellLists.{name_eq}
+use Rattle.scm_book.specs.Machine.{CallData, ReplyData, EntryData}
 use Rattle.scm_book.specs.Journal.{BookState, count_of, makes_entry, IsCall}
 use Rattle.scm_sessions.specs.Asking.{AskedData, nothing, bad, good}
-use Rattle.scm_sessions.specs.Exchanges.{Exchange, Answers, RunsWhole}
+use Rattle.scm_sessions.specs.Script.{Exchange, Answers, RunsWhole, ScriptState, script_state, session_of, is_entered, with_name, AnswersCall, IsScriptRun}
 use Rattle.scm_sessions.specs.declared.findings.Findings.{Findings}
-use Rattle.scm_sessions.specs.Findings.{FindsWhole}
-use Rattle.scm_sessions.specs.JournalText.{AreNamed}
-use Rattle.scm_sessions.specs.Script.{ScriptState, script_state, session_of, is_entered, with_name, AnswersCall, IsScriptRun}
+use Rattle.scm_sessions.specs.inner.Findings.{FindsWhole}
+use Rattle.scm_sessions.specs.inner.JournalText.{AreNamed}
 use Rattle.scm_sessions.proofs.Running.{FindsWhole-map}
 
 module _ {X : Type 0} (test : X → Bool) where

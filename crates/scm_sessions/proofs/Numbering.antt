@@ -2,8 +2,8 @@
 use Rattle.std.proofs.Common.{◌≡◌, ℕ, ◌+◌, ◌<◌, List, [], ◌∷◌, ◌++◌, length, map, take, get_or, sym, ap, ◌∙◌, arith, append_assoc, append-nil, length-take, suc, slice_index_or, subst}
 use Rattle.std.proofs.lemmas.List.{length-map, take_more, get_or-map}
 use Rattle.std.proofs.lemmas.List.Elements.{All-get_or}
-use Rattle.scm_book.specs.Calls.{EntryData}
-use Rattle.scm_sessions.specs.JournalText.{AreNamed, entry_line, entry_lines}
+use Rattle.scm_book.specs.Machine.{EntryData}
+use Rattle.scm_sessions.specs.inner.JournalText.{AreNamed, entry_line, entry_lines}
 
 -- the line of an entry at a place, under the name of its session
 abbrev line_at : List (List ℕ) → ℕ → EntryData → List ℕ

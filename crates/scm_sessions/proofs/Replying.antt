@@ -6,19 +6,19 @@ use Rattle.std.proofs.lemmas.List.{map-append}
 use Rattle.std.proofs.lemmas.List.Elements.{All-nil, All-cons, All-append}
 use Rattle.std.proofs.lemmas.Grind.{flat_map-append}
 use Rattle.scm_book.specs.declared.reply.Reply.{Reply}
-use Rattle.scm_book.specs.Calls.{CallData, ReplyData, reply_data}
+use Rattle.scm_book.specs.Machine.{CallData, ReplyData, reply_data}
 use Rattle.scm_shared.specs.Passes.{Known, newcomer}
 use Rattle.scm_sessions.specs.declared.numbered.NumberedLine.{NumberedLine}
 use Rattle.scm_sessions.specs.declared.findings.Findings.{Findings}
 use Rattle.scm_sessions.specs.Asking.{asked_data}
-use Rattle.scm_sessions.specs.Exchanges.{Exchange, exchange, has_reply}
-use Rattle.scm_sessions.specs.Numbered.{Numbered, numbered, line_data}
-use Rattle.scm_sessions.specs.Findings.{replies_of, unanswered, found_in, with_findings}
-use Rattle.scm_sessions.specs.SharedRuns.{FitsAsked, AllFit}
-use Rattle.scm_sessions.specs.Gathered.{made_in, entry_for, AnswersIn}
-use Rattle.scm_sessions.specs.Groups.{GroupData, group}
+use Rattle.scm_sessions.specs.Script.{Exchange, exchange, has_reply}
+use Rattle.scm_sessions.specs.inner.Numbered.{Numbered, numbered, line_data}
+use Rattle.scm_sessions.specs.inner.Findings.{replies_of, unanswered, found_in, with_findings}
+use Rattle.scm_sessions.specs.inner.SharedRuns.{FitsAsked, AllFit}
+use Rattle.scm_sessions.specs.inner.Gathered.{made_in, entry_for, AnswersIn}
+use Rattle.scm_sessions.specs.inner.Groups.{GroupData, group}
 use Rattle.scm_sessions.proofs.Merging.{with_none, with_both}
-use Rattle.scm_sessions.specs.Jobs.{JobData, job, begun, is_call, AreBegun, HasEntered, entries_for, lines_in, exchanges_in, replies_in, AnsweredLines, AnsweredWhole, AllAnswered}
+use Rattle.scm_sessions.specs.inner.Jobs.{JobData, job, begun, is_call, AreBegun, HasEntered, entries_for, lines_in, exchanges_in, replies_in, AnsweredLines, AnsweredWhole, AllAnswered}
 
 -- ---- one line more
 

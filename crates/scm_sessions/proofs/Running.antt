@@ -5,17 +5,14 @@ use Rattle.std.proofs.lemmas.List.Elements.{filter-append}
 use Rattle.std.proofs.lemmas.Grind.{flat_map-append}
 use Rattle.std.proofs.KnownBytes.{Consumes-nil, Consumes-trans, Consumes-kept, Appends-nil, Appends-kept, Appends-trans, prepend_known-nil}
 use Rattle.std.specs.Io.KnownBytes.{Consumes, Appends, Keeps, IsAtEnd, prepend_known}
-use Rattle.scm_book.specs.Calls.{CallData, ReplyData}
+use Rattle.scm_book.specs.Machine.{CallData, ReplyData}
 use Rattle.scm_sessions.specs.declared.reading.Cut.TheVariants.{Whole, Last}
-use Rattle.scm_sessions.specs.Lines.{Line, line_of, whole_lines_of, HasNoFeed}
-use Rattle.scm_sessions.specs.Asking.{AskedData, asked_by, name_in}
-use Rattle.scm_sessions.specs.Replies.{reply_line}
-use Rattle.scm_sessions.specs.Ports.{AppendsPart}
-use Rattle.scm_sessions.specs.Reading.{TakesLine}
+use Rattle.scm_sessions.specs.Asking.{Line, line_of, whole_lines_of, HasNoFeed, AskedData, asked_by, name_in}
+use Rattle.scm_sessions.specs.Script.{reply_line, AppendsPart, Exchange, has_reply, asked_in, asked_of, replies_text, Answers, LeadTo, RunsWholeLines, RunsPart}
+use Rattle.scm_sessions.specs.inner.Reading.{TakesLine}
 use Rattle.scm_sessions.specs.declared.findings.Findings.{Findings}
-use Rattle.scm_sessions.specs.Exchanges.{Exchange, has_reply, asked_in, asked_of, replies_text, Answers, LeadTo, RunsWholeLines, RunsPart}
-use Rattle.scm_sessions.specs.Findings.{findings_of, replies_of, with_answer, FindsWhole}
-use Rattle.scm_sessions.specs.Answering.{AnswersLine}
+use Rattle.scm_sessions.specs.inner.Findings.{findings_of, replies_of, with_answer, FindsWhole}
+use Rattle.scm_sessions.specs.inner.Answering.{AnswersLine}
 use Rattle.scm_sessions.proofs.Cutting.{AreLines, AreLines-nil, AreLines-more, lines_of-end, lines_of-last, whole_lines_of-part}
 use Rattle.scm_sessions.proofs.Finding.{found_more}
 use Rattle.scm_sessions.proofs.Sent.{AppendsPart-after, AppendsPart-all}

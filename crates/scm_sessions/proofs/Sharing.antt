@@ -6,20 +6,19 @@ use Rattle.std.proofs.lemmas.List.Elements.{All-nil, All-cons, All-head, All-tai
 use Rattle.std.proofs.lemmas.Bool.{eqb-true, cases_lt, and_parts, or_cases, both_ways}
 use Rattle.std.proofs.lemmas.Option.{slice_get_past}
 use Rattle.scm_sequences.specs.declared.refusal.Refusal.TheVariants.{BadLine, NoMemory}
-use Rattle.scm_cells.specs.Names.{name_eq}
-use Rattle.scm_book.specs.Calls.{CallData, ReplyData, refused, EntryData}
-use Rattle.scm_book.specs.Callers.{calls_by}
+use Rattle.scm_cells.specs.CellLists.{name_eq}
+use Rattle.scm_book.specs.Machine.{CallData, ReplyData, refused, EntryData}
+use Rattle.scm_book.specs.inner.Callers.{calls_by}
 use Rattle.scm_shared.specs.Passes.{Known}
-use Rattle.scm_shared.specs.Audits.{covers, AllMatchEntries, Agree}
+use Rattle.scm_shared.specs.inner.Audits.{covers, AllMatchEntries, Agree}
 use Rattle.scm_sessions.specs.Asking.{AskedData, nothing, bad, good}
-use Rattle.scm_sessions.specs.Exchanges.{Exchange, Answers, LeadTo, RunsWholeLines, RunsPart}
-use Rattle.scm_sessions.specs.Script.{session_of}
+use Rattle.scm_sessions.specs.Script.{Exchange, Answers, LeadTo, RunsWholeLines, RunsPart, session_of}
 use Rattle.scm_sessions.specs.declared.ended.Ended.{Ended}
-use Rattle.scm_sessions.specs.SharedRuns.{FitsAsked, AllFit, became_entry, entry_in, entries_of, IsSharedRun}
-use Rattle.scm_sessions.specs.Callers.{Callers, callers, AreNumberedFrom, made_by, MakesCall}
-use Rattle.scm_sessions.specs.JournalText.{AreNamed}
+use Rattle.scm_sessions.specs.inner.SharedRuns.{FitsAsked, AllFit, became_entry, entry_in, entries_of, IsSharedRun}
+use Rattle.scm_sessions.specs.inner.Callers.{Callers, callers, AreNumberedFrom, made_by, MakesCall}
+use Rattle.scm_sessions.specs.inner.JournalText.{AreNamed}
 use Rattle.scm_sessions.specs.declared.findings.Findings.{Findings}
-use Rattle.scm_sessions.specs.Findings.{FindsWhole}
+use Rattle.scm_sessions.specs.inner.Findings.{FindsWhole}
 use Rattle.scm_sessions.proofs.Running.{FindsWhole-map, RunsWholeLines-map, RunsPart-map}
 
 -- ---- exchange by exchange

@@ -6,7 +6,7 @@ use Rattle.std.proofs.lemmas.List.Sums.{fails_before_first}
 use Rattle.std.proofs.lemmas.List.Quantifiers.{position-Some}
 use Rattle.std.specs.List.{onto_first, position, position_or_len}
 use Rattle.std.specs.Option.{unwrap_or}
-use Rattle.scm_sessions.specs.Words.{is_blank, split_at_blanks, words_of}
+use Rattle.scm_sessions.specs.Asking.{is_blank, split_at_blanks, words_of}
 
 abbrev pub is_word : List ℕ → Bool
 is_word field = nat_lt 0 (length field)

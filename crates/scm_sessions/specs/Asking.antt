@@ -1,21 +1,116 @@
--- What a line of a script asks. This project's profile.
-use Rattle.std.specs.Prelude.{ℕ, List, [], ◌∷◌, take, drop, Bool, false, ◌&&◌, ◌==◌, ◌+◌, if◌then◌else◌, Option, None, Some, position}
-use Rattle.std.specs.Option.{option_and_then, option_map, option_map_or}
-use Rattle.scm_cells.specs.declared.width.Width.{Width}
-use Rattle.scm_cells.specs.declared.width.Width.TheVariants.{W, D}
-use Rattle.scm_cells.specs.Names.{is_name}
-use Rattle.scm_cells.specs.Numbers.{count_of_word}
-use Rattle.scm_cells.specs.Initials.{initial_of_word}
+-- The lines of a script, and what each asks. This project's profile.
+use Rattle.std.specs.Prelude.{ℕ, List, length, Bool, ◌||◌, ◌==◌, nat_lt, filter, Option, option_and_then, slice_get, codes, if◌then◌else◌, None, Some, ◌≢◌, [], ◌∷◌, map, All, take, drop, false, ◌&&◌, ◌+◌, position}
+use Rattle.std.specs.List.{slice_split}
 use Rattle.scm_lowering.specs.Accesses.{name_of_word, access_of_words}
-use Rattle.scm_book.specs.declared.call.Decl.{Decl}
-use Rattle.scm_book.specs.Calls.{CallData, call_data, opens, claims, releases, reports, sets_mark, goes_back, raises, asks, asks_why, asks_cycle, shows, lists, closes}
-use Rattle.scm_sessions.specs.declared.asking.Asked.{Asked}
-use Rattle.scm_sessions.specs.declared.asking.Asked.TheVariants.{Nothing, Bad, Good}
+use Rattle.std.specs.Cmp.Lexicographic.{pointwise}
 use Rattle.scm_sessions.specs.declared.commands.Command.{Command}
 use Rattle.scm_sessions.specs.declared.commands.Command.TheVariants.{OpenTrace, ClaimProcess, ReleaseProcess, Report, SetMark, GoBack, RaiseBudget, Ask, Why, Cycle, ShowOps, ListTraces, CloseTrace}
-use Rattle.scm_sessions.specs.Lines.{Line, too_long, text}
-use Rattle.scm_sessions.specs.Words.{words_of}
-use Rattle.scm_sessions.specs.Commands.{command_of_word}
+use Rattle.std.specs.Io.BufRead.{strip_last}
+use Rattle.scm_sequences.specs.declared.limits.TheConstants.{LONGEST_LINE}
+use Rattle.std.specs.Option.{option_map, option_map_or}
+use Rattle.scm_cells.specs.declared.width.Width.{Width}
+use Rattle.scm_cells.specs.declared.width.Width.TheVariants.{W, D}
+use Rattle.scm_cells.specs.CellLists.{is_name, initial_of_word}
+use Rattle.scm_cells.specs.Numbers.{count_of_word}
+use Rattle.scm_book.specs.declared.call.Decl.{Decl}
+use Rattle.scm_book.specs.Machine.{CallData, call_data, opens, claims, releases, reports, sets_mark, goes_back, raises, asks, asks_why, asks_cycle, shows, lists, closes}
+use Rattle.scm_sessions.specs.declared.asking.Asked.{Asked}
+use Rattle.scm_sessions.specs.declared.asking.Asked.TheVariants.{Nothing, Bad, Good}
+
+-- ==== the words of a line: what stands between spaces and tabs. This project's profile.
+
+-- a space or a tab
+abbrev pub is_blank : ℕ → Bool
+is_blank b = b == 32 || b == 9
+
+-- what stands before, between and after the blanks of a line, empty ones too
+abbrev pub split_at_blanks : List ℕ → List (List ℕ)
+split_at_blanks bytes = slice_split is_blank bytes
+
+-- the words of a line, in order
+abbrev pub words_of : List ℕ → List (List ℕ)
+words_of bytes = filter (λ field. nat_lt 0 (length field)) (split_at_blanks bytes)
+
+-- the first word of a line where it is a name
+abbrev pub name_of_line : List ℕ → Option (List ℕ)
+name_of_line bytes = option_and_then name_of_word (slice_get (words_of bytes) 0)
+
+-- ==== the commands: the word after the session's name. This project's profile.
+
+-- whether a word is this text
+abbrev pub is_word : List ℕ → List ℕ → Bool
+is_word = pointwise ◌==◌
+
+-- the command that a word is, if it is one
+abbrev pub command_of_word : List ℕ → Option Command
+command_of_word word =
+    if is_word word (codes "open") then Some OpenTrace
+    else (if is_word word (codes "claim") then Some ClaimProcess
+    else (if is_word word (codes "release") then Some ReleaseProcess
+    else (if is_word word (codes "do") then Some Report
+    else (if is_word word (codes "mark") then Some SetMark
+    else (if is_word word (codes "back") then Some GoBack
+    else (if is_word word (codes "raise") then Some RaiseBudget
+    else (if is_word word (codes "ask") then Some Ask
+    else (if is_word word (codes "why") then Some Why
+    else (if is_word word (codes "cycle") then Some Cycle
+    else (if is_word word (codes "show") then Some ShowOps
+    else (if is_word word (codes "list") then Some ListTraces
+    else (if is_word word (codes "close") then Some CloseTrace
+    else None))))))))))))
+
+-- ==== the lines of a script. A script is a list of bytes, cut at each line feed; bytes after the last line feed are a
+-- line too where there are any. A carriage return at the end of a line is dropped. A line that has more than
+-- LONGEST_LINE bytes before that drop is too long. This project's profile.
+
+pub data Line : Type 0 where
+  too_long : Line
+  text : List ℕ → Line
+
+-- a line from its bytes, None where it is too long
+abbrev pub line_given : Option (List ℕ) → Line
+line_given None = too_long
+line_given (Some bytes) = text bytes
+
+-- a byte that is no line feed goes on in front of the first piece, or is a piece of its own
+abbrev pub onto_first : ℕ → List (List ℕ) → List (List ℕ)
+onto_first b [] = (b ∷ []) ∷ []
+onto_first b (piece ∷ pieces) = (b ∷ piece) ∷ pieces
+
+-- the pieces between line feeds
+abbrev pub pieces_of : List ℕ → List (List ℕ)
+pieces_of [] = []
+pieces_of (b ∷ bytes) = if b == 10 then [] ∷ pieces_of bytes else onto_first b (pieces_of bytes)
+
+-- the same where bytes after the last line feed don't count
+abbrev pub onto_whole : ℕ → List (List ℕ) → List (List ℕ)
+onto_whole b [] = []
+onto_whole b (piece ∷ pieces) = (b ∷ piece) ∷ pieces
+
+-- the pieces that a line feed ends
+abbrev pub whole_pieces_of : List ℕ → List (List ℕ)
+whole_pieces_of [] = []
+whole_pieces_of (b ∷ bytes) = if b == 10 then [] ∷ whole_pieces_of bytes else onto_whole b (whole_pieces_of bytes)
+
+abbrev pub line_of : List ℕ → Line
+line_of piece = if nat_lt LONGEST_LINE (length piece) then too_long else text (strip_last 13 piece)
+
+-- a line's text as it stands, without line feed and carriage return: one that is longer than a line's is no line's
+abbrev pub line_of_text : List ℕ → Line
+line_of_text bytes = if nat_lt LONGEST_LINE (length bytes) then too_long else text bytes
+
+-- all lines of a script
+abbrev pub lines_of : List ℕ → List Line
+lines_of bytes = map line_of (pieces_of bytes)
+
+-- the lines of a script that a line feed ends
+abbrev pub whole_lines_of : List ℕ → List Line
+whole_lines_of bytes = map line_of (whole_pieces_of bytes)
+
+abbrev pub HasNoFeed : List ℕ → Type 0
+HasNoFeed bytes = All (λ b. b ≢ 10) bytes
+
+-- ==== what a line of a script asks. This project's profile.
 
 pub data AskedData : Type 0 where
   -- no reply

@@ -1,8 +1,7 @@
 //! How a line is answered.
 ghost use Rattle.std.specs.Prelude.{option_copied};
-ghost use Rattle.scm_sessions.specs.Lines.{line_given};
-ghost use Rattle.scm_sessions.specs.Asking.{asked_by, asked_data};
-ghost use Rattle.scm_sessions.specs.Answering.{AnswersWith};
+ghost use Rattle.scm_sessions.specs.Asking.{line_given, asked_by, asked_data};
+ghost use Rattle.scm_sessions.specs.inner.Answering.{AnswersWith};
 
 use crate::asking::{Asked, read_asked};
 use crate::replies::Answer;
@@ -14,9 +13,9 @@ use std::alloc::Global;
 /// Sessions that make calls, each known by its name.
 pub trait MakeCalls {
     ghost use Rattle.std.specs.Prelude.{ℕ, List};
-    ghost use Rattle.scm_book.specs.Calls.{CallData, ReplyData, call_data, reply_data};
+    ghost use Rattle.scm_book.specs.Machine.{CallData, ReplyData, call_data, reply_data};
     ghost use Rattle.scm_sessions.specs.Asking.{good};
-    ghost use Rattle.scm_sessions.specs.Exchanges.{Answers};
+    ghost use Rattle.scm_sessions.specs.Script.{Answers};
 
     ghost calls: { Self → List ℕ → CallData → ReplyData → Self → Type 0 };
 

@@ -1,8 +1,7 @@
 //! What stands after a command: a trace's name with a count or a mark, an access, and the declarations of cells.
 ghost use Rattle.std.specs.Prelude.{◌≡◌, ◌==◌, ◌<◌, length, map, position, option_map, IfSome, IfOk};
 ghost use Rattle.scm_lowering.specs.Accesses.{access_of_words};
-ghost use Rattle.scm_sessions.specs.Words.{words_of};
-ghost use Rattle.scm_sessions.specs.Asking.{named_count, named_alone, named_mark, width_of_letter, declaration_of, declaration_of_word, declarations_of_words};
+ghost use Rattle.scm_sessions.specs.Asking.{words_of, named_count, named_alone, named_mark, width_of_letter, declaration_of, declaration_of_word, declarations_of_words};
 
 use crate::words::split_word;
 use scm_book::Decl;

@@ -1,8 +1,6 @@
 //! What lines ask.
 ghost use Rattle.std.specs.Prelude.{◌≡◌, Some, option_copied, IfOk, IfErr};
-ghost use Rattle.scm_sessions.specs.Lines.{line_given};
-ghost use Rattle.scm_sessions.specs.Words.{words_of};
-ghost use Rattle.scm_sessions.specs.Asking.{asked_by, asked_by_words, asked_data, name_in, is_comment as is_comment_text};
+ghost use Rattle.scm_sessions.specs.Asking.{line_given, words_of, asked_by, asked_by_words, asked_data, name_in, is_comment as is_comment_text};
 
 use crate::calls::read_call;
 use crate::words::split_word;

@@ -1,10 +1,8 @@
 //! The calls that lines ask for.
 ghost use Rattle.std.specs.Prelude.{◌≡◌, ◌≢◌, ◌⊎◌, ℕ, List, None, option_map, IfOk, IfErr, MatchOption};
 ghost use Rattle.scm_sequences.specs.declared.refusal.Refusal.TheVariants.{BadLine, NoMemory as RefusedMemory};
-ghost use Rattle.scm_book.specs.Calls.{CallData, call_data, opens};
-ghost use Rattle.scm_sessions.specs.Lines.{line_of_text};
-ghost use Rattle.scm_sessions.specs.Words.{words_of};
-ghost use Rattle.scm_sessions.specs.Asking.{good, asked_by, declarations_of_words, open_of_words, report_of_words, claim_of_words, release_of_words, back_of_words, raise_of_words, show_of_words, mark_of_words, close_of_words, ask_of_words, why_of_words, cycle_of_words, list_of_words, call_of, call_of_words};
+ghost use Rattle.scm_book.specs.Machine.{CallData, call_data, opens};
+ghost use Rattle.scm_sessions.specs.Asking.{line_of_text, words_of, good, asked_by, declarations_of_words, open_of_words, report_of_words, claim_of_words, release_of_words, back_of_words, raise_of_words, show_of_words, mark_of_words, close_of_words, ask_of_words, why_of_words, cycle_of_words, list_of_words, call_of, call_of_words};
 
 use crate::arguments::{
     read_access_words, read_declarations, read_name_alone, read_name_and_count, read_name_and_mark,

@@ -1,6 +1,6 @@
 //! The commands of lines.
 ghost use Rattle.std.specs.Prelude.{◌≡◌};
-ghost use Rattle.scm_sessions.specs.Commands.{is_word as is_same_word, command_of_word};
+ghost use Rattle.scm_sessions.specs.Asking.{is_word as is_same_word, command_of_word};
 
 /// What the word after the session's name asks for.
 #[derive(Clone, Copy, Debug, PartialEq, Eq)]

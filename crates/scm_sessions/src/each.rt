@@ -2,14 +2,13 @@
 ghost use Rattle.std.specs.Prelude.{◌≡◌, ◌≤◌, ◌⊎◌, ◌↔◌, [], length, true, false, vec_capacity, All, IfOk, IfErr, IsErrOf, IsTrue};
 ghost use Rattle.std.specs.Io.KnownBytes.{Appends};
 ghost use Rattle.scm_book.specs.Journal.{IsLegalBook};
-ghost use Rattle.scm_sessions.specs.Ports.{inner_of, has_failed, AppendsPart};
-ghost use Rattle.scm_sessions.specs.JournalText.{AreNamed};
-ghost use Rattle.scm_sessions.specs.Exchanges.{has_reply};
-ghost use Rattle.scm_sessions.specs.Findings.{unanswered};
-ghost use Rattle.scm_sessions.specs.Jobs.{AreBegun, AllAnswered, jobs_text, with_jobs};
-ghost use Rattle.scm_sessions.specs.Groups.{GroupsWhole, GroupsWholeLines};
-ghost use Rattle.scm_sessions.specs.SharedRuns.{AllFit, IsSharedRun};
-ghost use Rattle.scm_sessions.specs.EachRuns.{FindsGroups, RunsGroupsWholeLines, RunsGroupsPart};
+ghost use Rattle.scm_sessions.specs.Script.{inner_of, has_failed, AppendsPart, has_reply};
+ghost use Rattle.scm_sessions.specs.inner.JournalText.{AreNamed};
+ghost use Rattle.scm_sessions.specs.inner.Findings.{unanswered};
+ghost use Rattle.scm_sessions.specs.inner.Jobs.{AreBegun, AllAnswered, jobs_text, with_jobs};
+ghost use Rattle.scm_sessions.specs.inner.Groups.{GroupsWhole, GroupsWholeLines};
+ghost use Rattle.scm_sessions.specs.inner.SharedRuns.{AllFit, IsSharedRun};
+ghost use Rattle.scm_sessions.specs.inner.EachRuns.{FindsGroups, RunsGroupsWholeLines, RunsGroupsPart};
 
 use crate::group_answers::answer_beside_workers;
 use crate::group_ends::{add_findings, gathered, room_for, write_groups};

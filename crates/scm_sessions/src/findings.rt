@@ -1,8 +1,8 @@
 //! What a run found that a tester wants to know at once.
 ghost use Rattle.std.specs.Prelude.{◌≡◌, [], ◌∷◌, option_copied};
-ghost use Rattle.scm_book.specs.Calls.{reply_data};
-ghost use Rattle.scm_sessions.specs.Answering.{answer_replies};
-ghost use Rattle.scm_sessions.specs.Findings.{findings_of, refusal_of_reply, answers_inconsistent, answers_undecided, earlier as earlier_line, found_in, refused_line, status_of, with_answer, with_findings, with_line, with_last_reply};
+ghost use Rattle.scm_book.specs.Machine.{reply_data};
+ghost use Rattle.scm_sessions.specs.inner.Answering.{answer_replies};
+ghost use Rattle.scm_sessions.specs.inner.Findings.{findings_of, refusal_of_reply, answers_inconsistent, answers_undecided, earlier as earlier_line, found_in, refused_line, status_of, with_answer, with_findings, with_line, with_last_reply};
 
 use crate::replies::Answer;
 use scm_book::Reply;

@@ -1,10 +1,10 @@
 //! The answers to the lines of a script, each group of them in a thread of its own.
 ghost use Rattle.std.specs.Prelude.{◌≡◌, ◌<◌, All, MatchBool, [], length, true};
-ghost use Rattle.scm_book.specs.Calls.{reply_data};
+ghost use Rattle.scm_book.specs.Machine.{reply_data};
 ghost use Rattle.scm_sessions.specs.Asking.{asked_data};
-ghost use Rattle.scm_sessions.specs.Exchanges.{has_reply};
-ghost use Rattle.scm_sessions.specs.Gathered.{AnswersIn};
-ghost use Rattle.scm_sessions.specs.Jobs.{AnsweredLines, AnsweredWhole, AllAnswered};
+ghost use Rattle.scm_sessions.specs.Script.{has_reply};
+ghost use Rattle.scm_sessions.specs.inner.Gathered.{AnswersIn};
+ghost use Rattle.scm_sessions.specs.inner.Jobs.{AnsweredLines, AnsweredWhole, AllAnswered};
 
 use crate::asking::Asked;
 use crate::jobs::Job;

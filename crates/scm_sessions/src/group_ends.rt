@@ -1,10 +1,9 @@
 //! The end of a run in groups: what their lines were answered is written, and the passes of their sessions are gathered.
 ghost use Rattle.std.specs.Prelude.{◌≡◌, ◌≤◌, ◌<◌, ◌++◌, [], length, map, flat_map, false, is_err, option_copied, vec_capacity, IfOk, IfErr};
-ghost use Rattle.scm_book.specs.Calls.{reply_data};
-ghost use Rattle.scm_sessions.specs.Ports.{inner_of, has_failed, WritesText, Sends};
-ghost use Rattle.scm_sessions.specs.Replies.{reply_line};
-ghost use Rattle.scm_sessions.specs.Findings.{with_findings};
-ghost use Rattle.scm_sessions.specs.Jobs.{job_text, jobs_text, with_jobs, names_in, passes_in, entered_names, entered_passes};
+ghost use Rattle.scm_book.specs.Machine.{reply_data};
+ghost use Rattle.scm_sessions.specs.Script.{inner_of, has_failed, WritesText, Sends, reply_line};
+ghost use Rattle.scm_sessions.specs.inner.Findings.{with_findings};
+ghost use Rattle.scm_sessions.specs.inner.Jobs.{job_text, jobs_text, with_jobs, names_in, passes_in, entered_names, entered_passes};
 
 use crate::jobs::Job;
 use crate::{Findings, Port, RunFault};

@@ -1,14 +1,12 @@
 //! The lines of a script, grouped by the names that they begin with.
 ghost use Rattle.std.specs.Prelude.{◌≡◌, ◌≢◌, ◌<◌, ◌↔◌, ◌++◌, ◌∷◌, [], length, true, false, option_copied, IfOk, IfErr, OnOk, IsErrOf};
 ghost use Rattle.std.specs.List.{position_or_len};
-ghost use Rattle.scm_sessions.specs.Lines.{line_given};
-ghost use Rattle.scm_sessions.specs.Asking.{asked_data, name_in};
-ghost use Rattle.scm_sessions.specs.Exchanges.{has_reply as has_reply_data};
-ghost use Rattle.scm_sessions.specs.Ports.{inner_of, has_failed};
-ghost use Rattle.scm_sessions.specs.Reading.{unread_of};
-ghost use Rattle.scm_sessions.specs.Numbered.{line_data};
-ghost use Rattle.scm_sessions.specs.Findings.{unanswered, with_line};
-ghost use Rattle.scm_sessions.specs.Groups.{group, has_name, with_numbered, with_next, with_group, GroupsWhole, GroupsWholeLines};
+ghost use Rattle.scm_sessions.specs.Asking.{line_given, asked_data, name_in};
+ghost use Rattle.scm_sessions.specs.Script.{has_reply as has_reply_data, inner_of, has_failed};
+ghost use Rattle.scm_sessions.specs.inner.Reading.{unread_of};
+ghost use Rattle.scm_sessions.specs.inner.Numbered.{line_data};
+ghost use Rattle.scm_sessions.specs.inner.Findings.{unanswered, with_line};
+ghost use Rattle.scm_sessions.specs.inner.Groups.{group, has_name, with_numbered, with_next, with_group, GroupsWhole, GroupsWholeLines};
 
 use crate::asking::{Asked, read_asked};
 use crate::numbered::NumberedLine;
@@ -39,8 +37,8 @@ pub(crate) struct Groups {
 
 impl Model for Group {
     ghost use Rattle.std.specs.Prelude.{map};
-    ghost use Rattle.scm_sessions.specs.Numbered.{line_data};
-    ghost use Rattle.scm_sessions.specs.Groups.{GroupData, group};
+    ghost use Rattle.scm_sessions.specs.inner.Numbered.{line_data};
+    ghost use Rattle.scm_sessions.specs.inner.Groups.{GroupData, group};
 
     ghost Value = { GroupData };
 
@@ -49,7 +47,7 @@ impl Model for Group {
 
 impl Model for Groups {
     ghost use Rattle.std.specs.Prelude.{◌≡◌, List};
-    ghost use Rattle.scm_sessions.specs.Groups.{GroupData, group_names};
+    ghost use Rattle.scm_sessions.specs.inner.Groups.{GroupData, group_names};
 
     ghost Value = { List GroupData };
 

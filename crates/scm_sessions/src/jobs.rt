@@ -3,8 +3,8 @@ ghost use Rattle.std.specs.Prelude.{◌≡◌, ◌+◌, ◌⊎◌, None, IfOk, I
 ghost use Rattle.std.specs.List.{list_any};
 ghost use Rattle.std.specs.Option.{option_map_or};
 ghost use Rattle.scm_shared.specs.Passes.{newcomer};
-ghost use Rattle.scm_sessions.specs.Numbered.{line_data};
-ghost use Rattle.scm_sessions.specs.Jobs.{begun, is_call, AreBegun, HasEntered};
+ghost use Rattle.scm_sessions.specs.inner.Numbered.{line_data};
+ghost use Rattle.scm_sessions.specs.inner.Jobs.{begun, is_call, AreBegun, HasEntered};
 
 use crate::Findings;
 use crate::asking::Asked;
@@ -32,9 +32,9 @@ pub(crate) struct Job<B: BookNaming> {
 
 impl<B: BookNaming> Model for Job<B> {
     ghost use Rattle.std.specs.Prelude.{◌+◌, ◌≤◌, length, map, vec_capacity};
-    ghost use Rattle.scm_book.specs.Calls.{reply_data};
-    ghost use Rattle.scm_sessions.specs.Numbered.{line_data};
-    ghost use Rattle.scm_sessions.specs.Jobs.{JobData, job};
+    ghost use Rattle.scm_book.specs.Machine.{reply_data};
+    ghost use Rattle.scm_sessions.specs.inner.Numbered.{line_data};
+    ghost use Rattle.scm_sessions.specs.inner.Jobs.{JobData, job};
 
     ghost Value = { JobData };
 

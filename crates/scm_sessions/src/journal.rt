@@ -1,8 +1,8 @@
 //! The text of a journal.
 ghost use Rattle.std.specs.Prelude.{◌≡◌, map, false, is_err, IfErr};
-ghost use Rattle.scm_book.specs.Calls.{entry_data};
-ghost use Rattle.scm_sessions.specs.Ports.{inner_of, has_failed, reads_of, WritesText, Sends};
-ghost use Rattle.scm_sessions.specs.JournalText.{AreNamed, entry_line, entry_lines, journal_head, journal_text};
+ghost use Rattle.scm_book.specs.Machine.{entry_data};
+ghost use Rattle.scm_sessions.specs.Script.{inner_of, has_failed, reads_of, WritesText, Sends};
+ghost use Rattle.scm_sessions.specs.inner.JournalText.{AreNamed, entry_line, entry_lines, journal_head, journal_text};
 
 use crate::{Port, RunFault};
 use scm_book::{Book, Entry};

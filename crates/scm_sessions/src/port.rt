@@ -3,8 +3,7 @@ ghost use Rattle.std.specs.Prelude.{◌≡◌, ◌+◌, ◌<◌, ◌≤◌, ◌|
 ghost use Rattle.std.specs.Io.{ReadsAtMost, WritesAtMost};
 ghost use Rattle.std.specs.Io.KnownBytes.{Keeps, ReadConsumes, WriteAppends};
 ghost use Rattle.scm_sequences.specs.declared.limits.TheConstants.{MOST_READS};
-ghost use Rattle.scm_sessions.specs.Ports.{inner_of, has_failed, reads_of, WritesText, Sends};
-ghost use Rattle.scm_sessions.specs.Replies.{spaced, spaced_word};
+ghost use Rattle.scm_sessions.specs.Script.{inner_of, has_failed, reads_of, WritesText, Sends, spaced, spaced_word};
 
 use itoa::Buffer;
 use scm_cells::Name;

@@ -52,9 +52,9 @@ impl LineReader {
     ghost use Rattle.std.specs.Prelude.{◌≡◌, ◌==◌, ◌<◌, ◌≤◌, ◌+◌, ◌||◌, ℕ, List, ◌++◌, [], length, take, drop, position, nat_lt, true, false, is_some, IfSome, IfOk, OnErr, MatchBool, MatchResult, option_copied};
     ghost use Rattle.std.specs.Io.KnownBytes.{Keeps, Consumes, IsAtEnd};
     ghost use Rattle.scm_sequences.specs.declared.limits.TheConstants.{LONGEST_LINE};
-    ghost use Rattle.scm_sessions.specs.Lines.{line_given, HasNoFeed};
-    ghost use Rattle.scm_sessions.specs.Ports.{inner_of, has_failed};
-    ghost use Rattle.scm_sessions.specs.Reading.{unread_of, left_of, most_bytes_left, held_line, TakesLine};
+    ghost use Rattle.scm_sessions.specs.Asking.{line_given, HasNoFeed};
+    ghost use Rattle.scm_sessions.specs.Script.{inner_of, has_failed};
+    ghost use Rattle.scm_sessions.specs.inner.Reading.{unread_of, left_of, most_bytes_left, held_line, TakesLine};
 
     /// A reader that holds nothing yet.
     pub(crate) fn new(alloc: Global) -> Result<LineReader, NoMemory>

@@ -1,8 +1,7 @@
 //! The text of refutations: all situations that can be reached, or the lines of a short one.
 ghost use Rattle.std.specs.Prelude.{◌≡◌, map, decimal, flat_map};
-ghost use Rattle.scm_book.specs.Calls.{because, cycle};
-ghost use Rattle.scm_sessions.specs.Ports.{inner_of, has_failed, reads_of, Sends};
-ghost use Rattle.scm_sessions.specs.Replies.{joined, comma_after, content_text, situation_text, place_text, pair_text, fact_text, rule_text, hint_text, line_text, reply_text};
+ghost use Rattle.scm_book.specs.Machine.{because, cycle};
+ghost use Rattle.scm_sessions.specs.Script.{inner_of, has_failed, reads_of, Sends, joined, comma_after, content_text, situation_text, place_text, pair_text, fact_text, rule_text, hint_text, line_text, reply_text};
 
 use crate::port::Port;
 use scm_frontier::Situation;

@@ -1,8 +1,7 @@
 //! The text of replies.
 ghost use Rattle.std.specs.Prelude.{◌≡◌, ◌++◌, codes, false, flat_map, is_err, option_copied, unwrap_or, IfErr};
-ghost use Rattle.scm_book.specs.Calls.{reply_data, marked, consistent, ops, listed, refused};
-ghost use Rattle.scm_sessions.specs.Ports.{inner_of, has_failed, reads_of, WritesText, Sends};
-ghost use Rattle.scm_sessions.specs.Replies.{spaced, fixed_text, with_text, shown_text, reply_text, reply_line};
+ghost use Rattle.scm_book.specs.Machine.{reply_data, marked, consistent, ops, listed, refused};
+ghost use Rattle.scm_sessions.specs.Script.{inner_of, has_failed, reads_of, WritesText, Sends, spaced, fixed_text, with_text, shown_text, reply_text, reply_line};
 
 use crate::{Port, RunFault};
 use scm_book::{Reply, Shown};

@@ -2,16 +2,13 @@
 ghost use Rattle.std.specs.Prelude.{◌≡◌, ◌≢◌, ◌≤◌, ◌↔◌, ℕ, List, [], true, false, is_err, IfOk, IfErr, OnOk, IsErrOf, option_copied, vec_capacity};
 ghost use Rattle.std.specs.Io.KnownBytes.{Keeps};
 ghost use Rattle.scm_sequences.specs.declared.limits.TheConstants.{MOST_SESSIONS};
-ghost use Rattle.scm_sessions.specs.Lines.{line_given};
-ghost use Rattle.scm_sessions.specs.Asking.{asked_by};
-ghost use Rattle.scm_sessions.specs.Ports.{inner_of, has_failed, WritesText};
-ghost use Rattle.scm_sessions.specs.Reading.{unread_of};
+ghost use Rattle.scm_sessions.specs.Asking.{line_given, asked_by};
+ghost use Rattle.scm_sessions.specs.Script.{inner_of, has_failed, WritesText, LeadTo, RunsWholeLines, RunsPart, script_state, IsScriptRun, IsScriptBeginning};
+ghost use Rattle.scm_sessions.specs.inner.Reading.{unread_of};
 ghost use Rattle.scm_book.specs.Journal.{IsLegalBook};
-ghost use Rattle.scm_sessions.specs.JournalText.{AreNamed};
-ghost use Rattle.scm_sessions.specs.Exchanges.{LeadTo, RunsWholeLines, RunsPart};
-ghost use Rattle.scm_sessions.specs.Findings.{findings_of, replies_of, with_answer, FindsWhole};
-ghost use Rattle.scm_sessions.specs.Answering.{AnswersLine};
-ghost use Rattle.scm_sessions.specs.Script.{script_state, IsScriptRun, IsScriptBeginning};
+ghost use Rattle.scm_sessions.specs.inner.JournalText.{AreNamed};
+ghost use Rattle.scm_sessions.specs.inner.Findings.{findings_of, replies_of, with_answer, FindsWhole};
+ghost use Rattle.scm_sessions.specs.inner.Answering.{AnswersLine};
 
 use crate::answers::{MakeCalls, answer_line};
 use crate::reading::{Cut, LineReader};

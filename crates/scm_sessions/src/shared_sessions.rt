@@ -4,7 +4,7 @@ ghost use Rattle.scm_sequences.specs.declared.refusal.Refusal.TheVariants.{NoMem
 ghost use Rattle.scm_sequences.specs.declared.limits.TheConstants.{MOST_SESSIONS};
 ghost use Rattle.scm_shared.specs.Passes.{newcomer};
 ghost use Rattle.scm_sessions.specs.Script.{session_of, with_name};
-ghost use Rattle.scm_sessions.specs.Callers.{callers, made_by, AreNumberedFrom};
+ghost use Rattle.scm_sessions.specs.inner.Callers.{callers, made_by, AreNumberedFrom};
 
 use crate::answers::MakeCalls;
 use crate::sessions::turns_away;
@@ -29,7 +29,7 @@ pub(crate) struct SharedSessions<'a, B: BookNaming, T: Wait> {
 impl<'a, B: BookNaming, T: Wait> Model for SharedSessions<'a, B, T> {
     ghost use Rattle.std.specs.Prelude.{◌≡◌, ◌≤◌, length};
     ghost use Rattle.scm_sequences.specs.declared.limits.TheConstants.{MOST_SESSIONS};
-    ghost use Rattle.scm_sessions.specs.Callers.{Callers, callers, AreNumberedFrom};
+    ghost use Rattle.scm_sessions.specs.inner.Callers.{Callers, callers, AreNumberedFrom};
 
     ghost Value = { Callers };
 
@@ -125,7 +125,7 @@ impl<'a, B: BookNaming, T: Wait> SharedSessions<'a, B, T> {
 }
 
 impl<B: BookNaming, T: Wait> MakeCalls for SharedSessions<'_, B, T> {
-    ghost use Rattle.scm_sessions.specs.Callers.{MakesCall};
+    ghost use Rattle.scm_sessions.specs.inner.Callers.{MakesCall};
 
     ghost calls = { MakesCall };
 

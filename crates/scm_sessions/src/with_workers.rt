@@ -2,13 +2,12 @@
 ghost use Rattle.std.specs.Prelude.{◌≡◌, ◌≤◌, ◌↔◌, [], true, false, vec_capacity, IfOk, IsErrOf, IsTrue};
 ghost use Rattle.scm_sequences.specs.declared.limits.TheConstants.{MOST_SESSIONS};
 ghost use Rattle.scm_book.specs.Journal.{IsLegalBook};
-ghost use Rattle.scm_sessions.specs.Ports.{inner_of, has_failed};
-ghost use Rattle.scm_sessions.specs.Reading.{unread_of};
-ghost use Rattle.scm_sessions.specs.JournalText.{AreNamed};
-ghost use Rattle.scm_sessions.specs.Exchanges.{RunsWholeLines, RunsPart, MayFail};
-ghost use Rattle.scm_sessions.specs.Findings.{FindsWhole};
-ghost use Rattle.scm_sessions.specs.Callers.{RunsCallers};
-ghost use Rattle.scm_sessions.specs.SharedRuns.{AllFit, IsSharedRun};
+ghost use Rattle.scm_sessions.specs.Script.{inner_of, has_failed, RunsWholeLines, RunsPart, MayFail};
+ghost use Rattle.scm_sessions.specs.inner.Reading.{unread_of};
+ghost use Rattle.scm_sessions.specs.inner.JournalText.{AreNamed};
+ghost use Rattle.scm_sessions.specs.inner.Findings.{FindsWhole};
+ghost use Rattle.scm_sessions.specs.inner.Callers.{RunsCallers};
+ghost use Rattle.scm_sessions.specs.inner.SharedRuns.{AllFit, IsSharedRun};
 
 use crate::reading::LineReader;
 use crate::run::{begin_lines, run_lines};

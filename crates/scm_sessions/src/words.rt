@@ -1,6 +1,6 @@
 //! The words of a line.
 ghost use Rattle.std.specs.Prelude.{◌≡◌, ◌<◌, [], ◌∷◌, length, not, position, IfSome, MatchOption};
-ghost use Rattle.scm_sessions.specs.Words.{is_blank, words_of, name_of_line};
+ghost use Rattle.scm_sessions.specs.Asking.{is_blank, words_of, name_of_line};
 
 use scm_cells::Name;
 

@@ -5,10 +5,10 @@ use Rattle.std.specs.List.{list_all, list_any}
 use Rattle.std.proofs.lemmas.List.Folds.{list_all-map}
 use Rattle.std.proofs.lemmas.List.Elements.{All-append}
 use Rattle.scm_book.specs.declared.entry.Entry.{Entry}
-use Rattle.scm_book.specs.Calls.{EntryData, entry_data}
+use Rattle.scm_book.specs.Machine.{EntryData, entry_data}
 use Rattle.scm_shared.specs.Passes.{Known}
-use Rattle.scm_shared.specs.Rule.{FitsHistory}
-use Rattle.scm_shared.specs.Audits.{covers, AllMatchEntries, Agree}
+use Rattle.scm_shared.specs.inner.Rule.{FitsHistory}
+use Rattle.scm_shared.specs.inner.Audits.{covers, AllMatchEntries, Agree}
 
 -- passes that fit the journal made just the calls of their sessions
 pub all_follow : (journal : List EntryData) (passes : List Known) → All (λ pass. FitsHistory journal pass) passes → AllMatchEntries passes journal

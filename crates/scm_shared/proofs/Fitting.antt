@@ -2,12 +2,12 @@
 use Rattle.std.proofs.Common.{◌≡◌, ◌≢◌, ℕ, ◌+◌, ◌≤◌, List, [], ◌∷◌, ◌++◌, length, true, false, true≢false, refl, sym, ap, ◌∙◌, arith, length-append}
 use mathlib.Core.Logic.{dite}
 use native.Mathlib.Decide.{dec_lt}
-use Rattle.scm_book.specs.Calls.{EntryData}
-use Rattle.scm_book.specs.Callers.{calls_by}
+use Rattle.scm_book.specs.Machine.{EntryData}
+use Rattle.scm_book.specs.inner.Callers.{calls_by}
 use Rattle.scm_book.specs.laws.CallerLaws.{calls_by-entry_own, calls_by-entry_other}
 use Rattle.scm_shared.specs.Passes.{Known, newcomer, at_front}
-use Rattle.scm_shared.specs.Rule.{FitsHistory, AllFitHistory, AllGiven}
-use Rattle.scm_shared.specs.Steps.{but_last, last_only, caught_up, called, all_caught_up, all_at_front}
+use Rattle.scm_shared.specs.inner.Rule.{FitsHistory, AllFitHistory, AllGiven}
+use Rattle.scm_shared.specs.inner.Steps.{but_last, last_only, caught_up, called, all_caught_up, all_at_front}
 use Rattle.scm_shared.proofs.Sums.{times, mark-same, times-cons}
 use Rattle.scm_shared.proofs.Prefixes.{prefix_whole, prefix_nothing, prefix_longer}
 

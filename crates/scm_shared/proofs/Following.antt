@@ -3,10 +3,10 @@ use Rattle.std.proofs.Common.{◌≡◌, ◌≢◌, ℕ, zero, suc, ◌+◌, ◌
 use Rattle.std.proofs.lemmas.Bool.{eq-eqb, eqb-true}
 use Rattle.std.proofs.lemmas.List.{drop_more, drop_all, length-drop}
 use Rattle.scm_book.specs.declared.entry.Entry.{Entry}
-use Rattle.scm_book.specs.Calls.{CallData, ReplyData, EntryData, entry_data}
-use Rattle.scm_book.specs.Callers.{calls_by}
+use Rattle.scm_book.specs.Machine.{CallData, ReplyData, EntryData, entry_data}
+use Rattle.scm_book.specs.inner.Callers.{calls_by}
 use Rattle.scm_book.specs.laws.CallerLaws.{calls_by-append, calls_by-entry_own, calls_by-entry_other}
-use Rattle.scm_shared.specs.Audits.{pair_of}
+use Rattle.scm_shared.specs.inner.Audits.{pair_of}
 
 -- these calls are those of the entries
 abbrev pub Follow : ℕ → List (CallData × ReplyData) → List Entry → Type 0

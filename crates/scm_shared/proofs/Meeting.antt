@@ -7,10 +7,10 @@ use Rattle.std.proofs.lemmas.Bool.Decides.{eqb_tells}
 use Rattle.std.proofs.lemmas.List.{get_or-set_same, get_or-set_other, get_or_default, take_all}
 use Rattle.std.proofs.lemmas.List.Folds.{list_all-map, list_all_more, list_all_at, list_any_at, list_any_none}
 use Rattle.scm_book.specs.declared.entry.Entry.{Entry}
-use Rattle.scm_book.specs.Calls.{EntryData, entry_data}
+use Rattle.scm_book.specs.Machine.{EntryData, entry_data}
 use Rattle.scm_shared.specs.Passes.{Known, newcomer}
-use Rattle.scm_shared.specs.Audits.{pair_of, covers, AllMatchEntries, Agree}
-use Rattle.scm_shared.specs.Meeting.{AreInOrder, AreCounted}
+use Rattle.scm_shared.specs.inner.Audits.{pair_of, covers, AllMatchEntries, Agree}
+use Rattle.scm_shared.specs.inner.Meeting.{AreInOrder, AreCounted}
 use Rattle.scm_shared.proofs.Following.{Follow, IsLeft, left-start, left-own, left-other, left-stops, left-end}
 
 -- of each pass, whose number is its place

@@ -12,12 +12,12 @@ use lib.ListN.{get_elem?}
 use Rattle.atomic_table.proofs.Lists.{at_set, at_snoc}
 use Rattle.atomic_table.specs.Table.{State, Me, step, Allows, Splits, Joins, keeps}
 use Rattle.scm_book.specs.declared.entry.Entry.{Entry}
-use Rattle.scm_book.specs.Calls.{EntryData, entry_data}
-use Rattle.scm_book.specs.Callers.{calls_by}
+use Rattle.scm_book.specs.Machine.{EntryData, entry_data}
+use Rattle.scm_book.specs.inner.Callers.{calls_by}
 use Rattle.scm_book.specs.laws.CallerLaws.{calls_by-entry_other}
 use Rattle.scm_shared.specs.Passes.{Known, newcomer}
-use Rattle.scm_shared.specs.Rule.{SeatView, keeper, holder, nobody, AllGiven, FitsView, holds, KeptAs, HasOneHistory}
-use Rattle.scm_shared.specs.Steps.{with_one_more, next_newcomer, both, staying, parted, called, with_entry, TellsCommit, all_caught_up, TellsHistory, all_at_front, TellsFront}
+use Rattle.scm_shared.specs.inner.Rule.{SeatView, keeper, holder, nobody, AllGiven, FitsView, holds, KeptAs, HasOneHistory}
+use Rattle.scm_shared.specs.inner.Steps.{with_one_more, next_newcomer, both, staying, parted, called, with_entry, TellsCommit, all_caught_up, TellsHistory, all_at_front, TellsFront}
 use Rattle.scm_shared.proofs.Sums.{sum_by-set, at_most_sum_by, two_at_most_sum_by, mark, mark-same, mark-other, times-append, times-one}
 use Rattle.scm_shared.proofs.Fitting.{off, AllFitHistory-append, AllFitHistory-but_last, AllFitHistory-last_only, times-parted, newcomer_fits, AllFitHistory-caught_up, times-caught_up, AllFitHistory-at_front, times-at_front, called_fits, AllFitHistory-others, AllGiven-none_late}
 

@@ -2,13 +2,12 @@
 use Rattle.std.proofs.Common.{◌≡◌, ℕ, ◌+◌, List, [], ◌∷◌, ◌++◌, length, map, refl, sym, ap, ◌∙◌, subst, arith, length-append}
 use Rattle.std.proofs.lemmas.List.{map-append}
 use Rattle.std.specs.Arc.{arc_value}
-use Rattle.scm_book.specs.Calls.{CallData, ReplyData, EntryData, KeptCall, kept_data, call_data, reply_data}
-use Rattle.scm_book.specs.Machine.{Machine}
+use Rattle.scm_book.specs.Machine.{CallData, ReplyData, EntryData, KeptCall, kept_data, call_data, reply_data, Machine}
 use Rattle.scm_book.specs.Journal.{count_of, entered, IsLegalHistory}
-use Rattle.scm_book.specs.Callers.{calls_by}
+use Rattle.scm_book.specs.inner.Callers.{calls_by}
 use Rattle.scm_book.specs.laws.CallerLaws.{calls_by-entry_own}
 use Rattle.scm_shared.specs.Passes.{Known, known, Extended}
-use Rattle.scm_shared.specs.Rule.{FitsHistory}
+use Rattle.scm_shared.specs.inner.Rule.{FitsHistory}
 
 -- a pass that fitted the journal makes a call, and has seen the journal with it
 pub extended : (old : Known) (log now : List EntryData) (machine : Machine) (call : CallData) (reply : ReplyData) (number : ℕ) (made : List (CallData × ReplyData)) (seen : List EntryData) (front : ℕ)

@@ -3,11 +3,11 @@ use Rattle.std.proofs.Common.{◌≡◌, ◌⊎◌, ℕ, List, [], ◌∷◌, �
 use mathlib.Core.List.{IsPrefix}
 use Rattle.atomic_table.specs.Table.{Me}
 use Rattle.scm_book.specs.declared.entry.Entry.{Entry}
-use Rattle.scm_book.specs.Calls.{EntryData}
+use Rattle.scm_book.specs.Machine.{EntryData}
 use Rattle.scm_shared.specs.Passes.{Known}
-use Rattle.scm_shared.specs.Rule.{SeatView, keeper, holder, AllFitHistory}
-use Rattle.scm_shared.specs.Steps.{both}
-use Rattle.scm_shared.specs.Seats.{IsPassOf, IsBooks}
+use Rattle.scm_shared.specs.inner.Rule.{SeatView, keeper, holder, AllFitHistory}
+use Rattle.scm_shared.specs.inner.Steps.{both}
+use Rattle.scm_shared.specs.inner.Seats.{IsPassOf, IsBooks}
 use Rattle.scm_shared.proofs.Prefixes.{prefix_either}
 
 -- the book's seat, with the pass that was joined to it

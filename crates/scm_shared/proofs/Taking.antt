@@ -11,7 +11,7 @@ use Rattle.scm_expand.specs.declared.task.Task.{Task}
 use Rattle.scm_expand.specs.Outcomes.{Expanded}
 use Rattle.scm_book.specs.Machine.{Machine}
 use Rattle.scm_book.specs.Journal.{BookState}
-use Rattle.scm_book.specs.Workers.{IsTaking, TakesOfOne, MeetAll, with_fates, IsDelivery}
+use Rattle.scm_book.specs.inner.Workers.{IsTaking, TakesOfOne, MeetAll, with_fates, IsDelivery}
 
 same_length : {A B : Type 0} (P : A → B → Type 0) (xs : List A) (ys : List B) → AllZip P xs ys → length xs ≡ length ys
 same_length P [] [] all = refl

@@ -2,9 +2,9 @@
 use Rattle.std.specs.Prelude.{ℕ, ◌≡◌, ◌<◌, ◌≤◌, List, [], ◌∷◌, ◌++◌, length}
 use mathlib.Core.List.{IsPrefix}
 use Rattle.scm_sequences.specs.declared.limits.TheConstants.{MOST_ENTRIES}
-use Rattle.scm_book.specs.Calls.{CallData, ReplyData, EntryData}
+use Rattle.scm_book.specs.Machine.{CallData, ReplyData, EntryData}
 use Rattle.scm_book.specs.Journal.{entered}
-use Rattle.scm_book.specs.Callers.{calls_by, IsHistory}
+use Rattle.scm_book.specs.inner.Callers.{calls_by, IsHistory}
 
 pub record Known : Type 0 where
   -- the session of the pass

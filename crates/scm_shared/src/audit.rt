@@ -4,12 +4,12 @@ ghost use Rattle.std.specs.List.{list_all, list_any};
 ghost use Rattle.scm_sequences.specs.declared.limits.TheConstants.{MOST_SESSIONS};
 ghost use Rattle.scm_results.specs.declared.naming.TheConstants.{MOST_TALLIES};
 ghost use Rattle.scm_results.specs.Tallies.{AddUpTo};
-ghost use Rattle.scm_book.specs.Calls.{entry_data};
+ghost use Rattle.scm_book.specs.Machine.{entry_data};
 ghost use Rattle.scm_book.specs.Journal.{IsLegalBook};
-ghost use Rattle.scm_shared.specs.Rule.{FitsHistory};
-ghost use Rattle.scm_shared.specs.Seats.{IsBooks};
-ghost use Rattle.scm_shared.specs.Audits.{covers, AllMatchEntries, Agree};
-ghost use Rattle.scm_shared.specs.Meeting.{AreInOrder, AreCounted};
+ghost use Rattle.scm_shared.specs.inner.Rule.{FitsHistory};
+ghost use Rattle.scm_shared.specs.inner.Seats.{IsBooks};
+ghost use Rattle.scm_shared.specs.inner.Audits.{covers, AllMatchEntries, Agree};
+ghost use Rattle.scm_shared.specs.inner.Meeting.{AreInOrder, AreCounted};
 
 use crate::comparing::{follows, is_next};
 use crate::length_word::LengthWord;

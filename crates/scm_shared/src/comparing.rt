@@ -1,9 +1,9 @@
 //! Whether what passes kept is what the journal has.
 ghost use Rattle.std.specs.Prelude.{◌≡◌, ◌↔◌, IsTrue, map};
-ghost use Rattle.scm_book.specs.Calls.{entry_data, kept_data};
-ghost use Rattle.scm_book.specs.Callers.{calls_by};
-ghost use Rattle.scm_shared.specs.Audits.{pair_of};
-ghost use Rattle.scm_shared.specs.Meeting.{IsNextCall};
+ghost use Rattle.scm_book.specs.Machine.{entry_data, kept_data};
+ghost use Rattle.scm_book.specs.inner.Callers.{calls_by};
+ghost use Rattle.scm_shared.specs.inner.Audits.{pair_of};
+ghost use Rattle.scm_shared.specs.inner.Meeting.{IsNextCall};
 
 use scm_book::{Call, Entry, Reply};
 use std::sync::Arc;

@@ -1,11 +1,11 @@
 //! The length word beside the lock, and all that is done with it.
 ghost use Rattle.std.specs.Prelude.{◌≡◌, ◌+◌, ◌<◌, ◌≤◌, ◌⊎◌, [], ◌∷◌, ◌++◌, length, map};
 ghost use mathlib.Core.List.{IsPrefix};
-ghost use Rattle.scm_book.specs.Calls.{EntryData, entry_data};
+ghost use Rattle.scm_book.specs.Machine.{EntryData, entry_data};
 ghost use Rattle.scm_shared.specs.Passes.{newcomer, at_front};
-ghost use Rattle.scm_shared.specs.Rule.{holder, FitsHistory};
-ghost use Rattle.scm_shared.specs.Steps.{both, staying, parted, caught_up, called};
-ghost use Rattle.scm_shared.specs.Seats.{known_in, IsPassOf, HasPass, IsKeeper, IsBooks};
+ghost use Rattle.scm_shared.specs.inner.Rule.{holder, FitsHistory};
+ghost use Rattle.scm_shared.specs.inner.Steps.{both, staying, parted, caught_up, called};
+ghost use Rattle.scm_shared.specs.inner.Seats.{known_in, IsPassOf, HasPass, IsKeeper, IsBooks};
 
 use crate::BookNaming;
 use crate::word::{Commits, Enters, Fronts, Law, Learns, Parts, Takes, View};

@@ -5,14 +5,14 @@ ghost use Rattle.scm_sequences.specs.declared.refusal.Refusal.TheVariants.{BadLi
 ghost use Rattle.scm_sequences.specs.declared.limits.TheConstants.{MOST_SESSIONS};
 ghost use Rattle.scm_results.specs.declared.naming.TheConstants.{MOST_TALLIES};
 ghost use Rattle.scm_results.specs.Tallies.{nothing, nothing_counted};
-ghost use Rattle.scm_book.specs.Calls.{call_data, reply_data, refused};
+ghost use Rattle.scm_book.specs.Machine.{call_data, reply_data, refused};
 ghost use Rattle.scm_book.specs.Journal.{makes_entry, IsUnchanged};
-ghost use Rattle.scm_book.specs.Loans.{IsLending, IsLendingForWork, IsTakingBack};
-ghost use Rattle.scm_book.specs.Plans.{IsKnown, known_reply};
-ghost use Rattle.scm_book.specs.Workers.{IsTaking, IsDelivery};
-ghost use Rattle.scm_shared.specs.Locking.{with_one_entered, KeepsCounts, IsLockedCall, IsSearchedCall};
+ghost use Rattle.scm_book.specs.inner.Loans.{IsLending, IsLendingForWork, IsTakingBack};
+ghost use Rattle.scm_book.specs.inner.Plans.{IsKnown, known_reply};
+ghost use Rattle.scm_book.specs.inner.Workers.{IsTaking, IsDelivery};
+ghost use Rattle.scm_shared.specs.inner.Locking.{with_one_entered, KeepsCounts, IsLockedCall, IsSearchedCall};
 ghost use Rattle.scm_shared.specs.Passes.{newcomer, Extended, SeenFull};
-ghost use Rattle.scm_shared.specs.Seats.{IsKeeper};
+ghost use Rattle.scm_shared.specs.inner.Seats.{IsKeeper};
 
 use crate::length_word::LengthWord;
 use crate::word::View;
@@ -66,8 +66,8 @@ pub(crate) struct Locked<B: BookNaming> {
 impl<B: BookNaming> Model for Locked<B> {
     ghost use Rattle.std.specs.Prelude.{◌≡◌, ◌≢◌, ◌+◌, ◌≤◌, length};
     ghost use Rattle.scm_sequences.specs.declared.limits.TheConstants.{MOST_SESSIONS};
-    ghost use Rattle.scm_shared.specs.Locking.{LockedState};
-    ghost use Rattle.scm_shared.specs.Seats.{IsKeeper};
+    ghost use Rattle.scm_shared.specs.inner.Locking.{LockedState};
+    ghost use Rattle.scm_shared.specs.inner.Seats.{IsKeeper};
 
     ghost Value = { LockedState };
 

@@ -18,7 +18,7 @@ pub trait BookNaming: Naming {
 }
 
 impl BookNaming for Brand {
-    ghost use Rattle.scm_shared.specs.Seats.{no_table};
+    ghost use Rattle.scm_shared.specs.inner.Seats.{no_table};
 
     ghost table = { no_table };
 

@@ -1,6 +1,6 @@
 //! What a caller holds.
 ghost use Rattle.std.specs.Prelude.{◌≡◌, ◌≤◌, length, map};
-ghost use Rattle.scm_book.specs.Calls.{kept_data};
+ghost use Rattle.scm_book.specs.Machine.{kept_data};
 
 use crate::word::View;
 use crate::{BookNaming, Made};
@@ -26,9 +26,9 @@ pub struct Pass<B: BookNaming> {
 
 impl<B: BookNaming> Model for Pass<B> {
     ghost use Rattle.std.specs.Prelude.{◌≡◌, ◌≤◌, length, map};
-    ghost use Rattle.scm_book.specs.Calls.{kept_data};
+    ghost use Rattle.scm_book.specs.Machine.{kept_data};
     ghost use Rattle.scm_shared.specs.Passes.{Known, known};
-    ghost use Rattle.scm_shared.specs.Seats.{known_in, IsPassOf};
+    ghost use Rattle.scm_shared.specs.inner.Seats.{known_in, IsPassOf};
 
     ghost Value = { Known };
 

@@ -1,7 +1,7 @@
 //! What a shared book is made of.
 ghost use Rattle.std.specs.Prelude.{◌≡◌, ◌+◌, []};
 ghost use Rattle.scm_sequences.specs.declared.limits.TheConstants.{MOST_SESSIONS};
-ghost use Rattle.scm_shared.specs.Seats.{IsKeeper};
+ghost use Rattle.scm_shared.specs.inner.Seats.{IsKeeper};
 
 use crate::word::{Law, View};
 use atomic_table::{Seat, Table};

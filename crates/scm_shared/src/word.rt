@@ -10,7 +10,7 @@ pub struct View {
 }
 
 impl Model for View {
-    ghost use Rattle.scm_shared.specs.Rule.{SeatView, nobody};
+    ghost use Rattle.scm_shared.specs.inner.Rule.{SeatView, nobody};
 
     ghost Value = { SeatView };
 
@@ -22,7 +22,7 @@ pub struct Law;
 
 impl TableRule<Entry, View, ()> for Law {
     ghost use Rattle.std.specs.Prelude.{[]};
-    ghost use Rattle.scm_shared.specs.Rule.{keeper, HasOneHistory};
+    ghost use Rattle.scm_shared.specs.inner.Rule.{keeper, HasOneHistory};
 
     ghost holds = { λ _. λ s. HasOneHistory s.words s.views };
 
@@ -33,7 +33,7 @@ impl TableRule<Entry, View, ()> for Law {
 pub struct Enters;
 
 impl Split<View> for Enters {
-    ghost use Rattle.scm_shared.specs.Steps.{with_one_more, next_newcomer};
+    ghost use Rattle.scm_shared.specs.inner.Steps.{with_one_more, next_newcomer};
 
     ghost left = { with_one_more };
 
@@ -44,8 +44,8 @@ impl Split<View> for Enters {
 pub struct Takes;
 
 impl Join<View> for Takes {
-    ghost use Rattle.scm_shared.specs.Rule.{nobody};
-    ghost use Rattle.scm_shared.specs.Steps.{both};
+    ghost use Rattle.scm_shared.specs.inner.Rule.{nobody};
+    ghost use Rattle.scm_shared.specs.inner.Steps.{both};
 
     ghost both = { both };
 
@@ -56,7 +56,7 @@ impl Join<View> for Takes {
 pub struct Parts;
 
 impl Split<View> for Parts {
-    ghost use Rattle.scm_shared.specs.Steps.{staying, parted};
+    ghost use Rattle.scm_shared.specs.inner.Steps.{staying, parted};
 
     ghost left = { staying };
 
@@ -67,7 +67,7 @@ impl Split<View> for Parts {
 pub struct Commits;
 
 impl Play<Entry, View> for Commits {
-    ghost use Rattle.scm_shared.specs.Steps.{TellsCommit};
+    ghost use Rattle.scm_shared.specs.inner.Steps.{TellsCommit};
 
     ghost then = { TellsCommit };
 }
@@ -76,7 +76,7 @@ impl Play<Entry, View> for Commits {
 pub struct Learns;
 
 impl Play<Entry, View> for Learns {
-    ghost use Rattle.scm_shared.specs.Steps.{TellsHistory};
+    ghost use Rattle.scm_shared.specs.inner.Steps.{TellsHistory};
 
     ghost then = { TellsHistory };
 }
@@ -85,7 +85,7 @@ impl Play<Entry, View> for Learns {
 pub struct Fronts;
 
 impl Play<Entry, View> for Fronts {
-    ghost use Rattle.scm_shared.specs.Steps.{TellsFront};
+    ghost use Rattle.scm_shared.specs.inner.Steps.{TellsFront};
 
     ghost then = { TellsFront };
 }

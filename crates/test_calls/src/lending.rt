@@ -1,7 +1,7 @@
 //! Questions that are lent by a book, and what is taken back after whatever happened meanwhile.
 
-ghost use Rattle.scm_book.specs.Calls.{call_data};
-ghost use Rattle.scm_book.specs.Plans.{IsKnown, known_reply};
+ghost use Rattle.scm_book.specs.Machine.{call_data};
+ghost use Rattle.scm_book.specs.inner.Plans.{IsKnown, known_reply};
 
 use crate::words::{ANNA, call_of, name, play, played, says};
 use crate::work::awaits;

@@ -1,7 +1,7 @@
 //! The journal as it is written, to a writer that fails too.
 ghost use Rattle.std.specs.Prelude.{◌≡◌, false, IfOk};
-ghost use Rattle.scm_sessions.specs.Ports.{has_failed};
-ghost use Rattle.scm_sessions.specs.JournalText.{AreNamed};
+ghost use Rattle.scm_sessions.specs.Script.{has_failed};
+ghost use Rattle.scm_sessions.specs.inner.JournalText.{AreNamed};
 
 use crate::fakes::{StepWriter, Wire};
 use scm_book::Book;

@@ -1,7 +1,7 @@
 //! A trace that grows and goes back, with its set.
 ghost use Rattle.std.specs.Prelude.{◌<◌, ◌≤◌, length};
 ghost use Rattle.scm_sequences.specs.declared.limits.TheConstants.{MOST_PROCESSES};
-ghost use Rattle.scm_sequences.specs.Ops.{cell_of};
+ghost use Rattle.scm_sequences.specs.Sequences.{cell_of};
 
 use crate::traces::operation;
 use scm_cells::{Cells, Initial, Name, Num, Width};
@@ -43,7 +43,7 @@ pub(crate) struct Subject {
 
 impl Model for Subject {
     ghost use Rattle.std.specs.Prelude.{length};
-    ghost use Rattle.scm_sequences.specs.Ops.{NamesCellsBelow};
+    ghost use Rattle.scm_sequences.specs.Sequences.{NamesCellsBelow};
     ghost use Rattle.scm_sequences.specs.Traces.{trace_of};
     ghost use Rattle.scm_reach.specs.Kept.{Kept, IsKept};
 

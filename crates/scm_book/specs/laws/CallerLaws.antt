@@ -2,8 +2,8 @@
 use Rattle.std.proofs.Common.{◌≡◌, ◌≢◌, ℕ, List, [], ◌∷◌, ◌++◌, Bool, true, false, refl, sym, ap, ◌∙◌, ◌==◌}
 use Rattle.std.proofs.lemmas.Bool.{ne_eqb, eq-eqb}
 use Rattle.std.proofs.lemmas.List.{append-nil}
-use Rattle.scm_book.specs.Calls.{CallData, ReplyData, EntryData}
-use Rattle.scm_book.specs.Callers.{calls_by}
+use Rattle.scm_book.specs.Machine.{CallData, ReplyData, EntryData}
+use Rattle.scm_book.specs.inner.Callers.{calls_by}
 
 -- with one more call or without it
 abbrev with_call : Bool → CallData × ReplyData → List (CallData × ReplyData) → List (CallData × ReplyData)

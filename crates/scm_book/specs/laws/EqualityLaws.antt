@@ -6,7 +6,7 @@ use Rattle.std.specs.Cmp.{unsigned_Decides}
 use Rattle.std.specs.Cmp.Lexicographic.{pointwise_decides}
 use Rattle.scm_lowering.specs.declared.access.Access.{Access}
 use Rattle.scm_lowering.specs.laws.AccessLaws.{access_eq-Decides}
-use Rattle.scm_cells.specs.Names.{name_eq}
+use Rattle.scm_cells.specs.CellLists.{name_eq}
 use Rattle.scm_cells.specs.laws.NameLaws.{name_eq-Decides}
 use Rattle.scm_frontier.specs.laws.ComparisonLaws.{situated_eq-Decides, option_eq-Decides}
 use Rattle.scm_orders.specs.laws.DerivationLaws.{derivation_eq-Decides}
@@ -20,7 +20,7 @@ use Rattle.scm_book.specs.contracts.call.DeclPartialEq.TheImpl as decls
 use Rattle.scm_book.specs.contracts.call.CallPartialEq.TheImpl as calls
 use Rattle.scm_book.specs.contracts.reply.ShownPartialEq.TheImpl as shown
 use Rattle.scm_book.specs.contracts.reply.ReplyPartialEq.TheImpl as replies
-use Rattle.scm_book.specs.Calls.{reports, call_data, listed, reply_data}
+use Rattle.scm_book.specs.Machine.{reports, call_data, listed, reply_data}
 
 decl_eq-Decides : (a b : Decl) → Decides (decls.ghosts.eq a b) (a ≡ b)
 decl_eq-Decides a b = search (rules, name_eq-Decides)

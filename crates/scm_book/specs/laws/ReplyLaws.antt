@@ -14,11 +14,7 @@ use Rattle.scm_cells.specs.CellLists.{Declared}
 use Rattle.scm_lowering.specs.declared.access.Access.{Access}
 use Rattle.scm_lowering.specs.declared.access.Access.TheVariants.{Load, Store, Amo, ReadWrite}
 use Rattle.scm_lowering.specs.Lowering.{and_then, cell_and_width, cell_for, narrowed, width_eq, lowered}
-use Rattle.scm_book.specs.Calls.{CallData, opens, claims, releases, reports, sets_mark, goes_back, raises, asks, asks_why, asks_cycle, shows, lists, closes, ReplyData, done, marked, consistent, inconsistent, undecided, because, cycle, unknown, ops, listed, refused}
-use Rattle.scm_book.specs.Machine.{Machine, TraceState, trace_named, trace_in}
-use Rattle.scm_book.specs.Refusals.{cause, refusal_in, no_process, not_claimed, report_cause, question_cause, refusal_of}
-use Rattle.scm_book.specs.Steps.{Unless, IsAbout, HasEffect, IsStep}
-use Rattle.scm_book.specs.Verdicts.{Fits, FitsCycle}
+use Rattle.scm_book.specs.Machine.{CallData, opens, claims, releases, reports, sets_mark, goes_back, raises, asks, asks_why, asks_cycle, shows, lists, closes, ReplyData, done, marked, consistent, inconsistent, undecided, because, cycle, unknown, ops, listed, refused, Machine, TraceState, trace_named, trace_in, cause, refusal_in, no_process, not_claimed, report_cause, question_cause, refusal_of, Unless, IsAbout, HasEffect, IsStep, Fits, FitsCycle}
 use Rattle.scm_book.specs.Journal.{BookState, makes_entry, IsCall}
 
 -- a step may be answered so

@@ -1,7 +1,7 @@
 //! The calls of the book, one by one.
 ghost use Rattle.std.specs.Prelude.{◌≡◌, ◌+◌, ◌-◌, false, None};
-ghost use Rattle.scm_book.specs.Calls.{reply_data, opens, claims, releases, reports, sets_mark, goes_back, raises, asks, asks_why, asks_cycle, shows, lists, closes};
-ghost use Rattle.scm_book.specs.Sets.{HasRoomFor, SearchesSet};
+ghost use Rattle.scm_book.specs.Machine.{reply_data, opens, claims, releases, reports, sets_mark, goes_back, raises, asks, asks_why, asks_cycle, shows, lists, closes};
+ghost use Rattle.scm_book.specs.inner.Sets.{HasRoomFor, SearchesSet};
 ghost use Rattle.scm_results.specs.Totals.{capped};
 ghost use Rattle.scm_book.specs.Journal.{IsCall, IsLegalBook};
 

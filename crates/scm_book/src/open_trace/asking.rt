@@ -1,12 +1,10 @@
 //! Questions about an open trace.
 ghost use Rattle.std.specs.Prelude.{◌≡◌, ◌+◌, ◌<◌, ◌^◌, length, None, Ok, Err, IfOk, IfErr, MatchResult};
-ghost use Rattle.scm_sequences.specs.Refusals.{Refuses};
-ghost use Rattle.scm_book.specs.Asking.{AsksFor};
-ghost use Rattle.scm_book.specs.Calls.{reply_data, answer_data};
-ghost use Rattle.scm_book.specs.Refusals.{question_cause};
-ghost use Rattle.scm_book.specs.Sets.{lengths_at_mark, most_steps, SearchesAt};
-ghost use Rattle.scm_book.specs.Sound.{IsKeptFor};
-ghost use Rattle.scm_book.specs.Steps.{Asks, AsksCycle, AsksWhy};
+ghost use Rattle.scm_sequences.specs.Sequences.{Refuses};
+ghost use Rattle.scm_book.specs.inner.Asking.{AsksFor};
+ghost use Rattle.scm_book.specs.Machine.{reply_data, answer_data, question_cause, Asks, AsksCycle, AsksWhy};
+ghost use Rattle.scm_book.specs.inner.Sets.{lengths_at_mark, most_steps, SearchesAt};
+ghost use Rattle.scm_book.specs.inner.Sound.{IsKeptFor};
 
 use super::OpenTrace;
 use crate::Reply;

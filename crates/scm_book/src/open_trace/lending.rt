@@ -3,8 +3,8 @@ ghost use Rattle.std.specs.Prelude.{◌≡◌, ◌↔◌, IfSome, IsTrue, MatchO
 ghost use Rattle.scm_sequences.specs.Traces.{trace_of};
 ghost use Rattle.scm_cells.specs.CellLists.{initials_of};
 ghost use Rattle.scm_reach.specs.Kept.{IsKept};
-ghost use Rattle.scm_book.specs.Sets.{asked_lengths};
-ghost use Rattle.scm_book.specs.Loans.{IsAlike, IsMore, Lends, TakesBack, TakesSet};
+ghost use Rattle.scm_book.specs.inner.Sets.{asked_lengths};
+ghost use Rattle.scm_book.specs.inner.Loans.{IsAlike, IsMore, Lends, TakesBack, TakesSet};
 
 use super::asking::lengths_at;
 use super::{OpenTrace, Purpose};

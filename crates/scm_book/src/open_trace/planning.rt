@@ -1,8 +1,8 @@
 //! What is to be done before a question about an open trace is asked.
 ghost use Rattle.std.specs.Prelude.{◌≡◌, IfOk, IfSome, MatchOption, None};
-ghost use Rattle.scm_book.specs.Calls.{reply_data};
-ghost use Rattle.scm_book.specs.Loans.{Lends};
-ghost use Rattle.scm_book.specs.Plans.{IsExplained, reply_in, loan_in};
+ghost use Rattle.scm_book.specs.Machine.{reply_data};
+ghost use Rattle.scm_book.specs.inner.Loans.{Lends};
+ghost use Rattle.scm_book.specs.inner.Plans.{IsExplained, reply_in, loan_in};
 
 use super::asking::lengths_at;
 use super::{OpenTrace, Purpose};

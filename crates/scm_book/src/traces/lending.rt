@@ -1,9 +1,9 @@
 //! Questions that are searched beside the traces.
 ghost use Rattle.std.specs.Prelude.{◌≡◌, None, IfSome, MatchOption};
-ghost use Rattle.scm_book.specs.Sets.{machine_in, sets_in};
-ghost use Rattle.scm_book.specs.Loans.{IsLentOf, IsTakenBack};
-ghost use Rattle.scm_book.specs.Plans.{IsExplained, reply_in, loan_in};
-ghost use Rattle.scm_book.specs.Steps.{InTrace};
+ghost use Rattle.scm_book.specs.inner.Sets.{machine_in, sets_in};
+ghost use Rattle.scm_book.specs.inner.Loans.{IsLentOf, IsTakenBack};
+ghost use Rattle.scm_book.specs.inner.Plans.{IsExplained, reply_in, loan_in};
+ghost use Rattle.scm_book.specs.Machine.{InTrace};
 
 use super::Traces;
 use crate::loan::Loan;

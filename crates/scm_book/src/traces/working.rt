@@ -1,7 +1,7 @@
 //! What workers take and deliver.
 ghost use Rattle.std.specs.Prelude.{◌≡◌, ◌↔◌, false, IfSome, MatchOption, MatchResult};
-ghost use Rattle.scm_book.specs.Sets.{machine_in, sets_in, InKept};
-ghost use Rattle.scm_book.specs.Workers.{Offers, OffersNew, OffersNothing, OffersNothingNew, ComesFirst, TakesTasks, Meets, Delivers};
+ghost use Rattle.scm_book.specs.inner.Sets.{machine_in, sets_in, InKept};
+ghost use Rattle.scm_book.specs.inner.Workers.{Offers, OffersNew, OffersNothing, OffersNothingNew, ComesFirst, TakesTasks, Meets, Delivers};
 
 use super::Traces;
 use scm_cells::Name;

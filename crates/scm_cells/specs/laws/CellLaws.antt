@@ -14,14 +14,11 @@ use Rattle.scm_cells.specs.declared.width.Width.{Width}
 use Rattle.scm_cells.specs.declared.width.Width.TheVariants.{W, D}
 use Rattle.scm_cells.specs.declared.number.Num.{Num}
 use Rattle.scm_cells.specs.declared.number.Num.TheVariants.{Plain, Negative, Beyond}
-use Rattle.scm_cells.specs.Names.{name_eq}
+use Rattle.scm_cells.specs.CellLists.{name_eq, first_contents, Declared, AreCells, HasValueInWidth, add_refusal, declared_cell, initials_of}
 use Rattle.scm_cells.specs.laws.NameLaws.{name_eq-Decides}
 use Rattle.scm_cells.specs.declared.initial.Initial.{Initial}
 use Rattle.scm_cells.specs.declared.initial.Initial.TheVariants.{Given, Unset}
-use Rattle.scm_cells.specs.Initials.{first_contents}
-use Rattle.scm_cells.specs.Widths.{values_of}
-use Rattle.scm_cells.specs.Numbers.{value_of_number}
-use Rattle.scm_cells.specs.CellLists.{Declared, AreCells, HasValueInWidth, add_refusal, declared_cell, initials_of}
+use Rattle.scm_cells.specs.Numbers.{values_of, value_of_number}
 
 -- ---- what cells hold at first
 

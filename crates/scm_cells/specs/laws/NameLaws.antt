@@ -8,7 +8,7 @@ use Rattle.std.proofs.lemmas.Bool.Decides.{Decides-eqb, Decides-like, same_from_
 use Rattle.std.proofs.lemmas.List.{length-map, length-take-le, take-append-drop}
 use Rattle.std.proofs.lemmas.Map.Made.{is_some-lookup}
 use Rattle.scm_sequences.specs.declared.limits.TheConstants.{LONGEST_NAME}
-use Rattle.scm_cells.specs.Names.{name_eq, IsPaddedName}
+use Rattle.scm_cells.specs.CellLists.{name_eq, IsPaddedName}
 
 pub name_eq-Decides : (a b : List ℕ) → Decides (name_eq a b) (a ≡ b)
 name_eq-Decides = pointwise_decides Decides-eqb

@@ -2,7 +2,7 @@
 use Rattle.std.specs.Prelude.{ℕ, ◌≡◌, ◌<◌, List, length, Option, None, Some, Result, Ok, Err, Bool, true, false, if◌then◌else◌, option_and_then, option_map, ok_or, slice_get, IfOk}
 use Rattle.std.proofs.Common.{refl, subst}
 use Rattle.std.proofs.lemmas.Option.{slice_get_within}
-use Rattle.scm_sequences.specs.Ops.{cell_of}
+use Rattle.scm_sequences.specs.Sequences.{cell_of}
 use Rattle.scm_sequences.specs.declared.op.Op.{Op}
 use Rattle.scm_sequences.specs.declared.op.Op.TheVariants.{R, W as Written, Rw}
 use Rattle.scm_sequences.specs.declared.refusal.Refusal.{Refusal}

@@ -1,4 +1,4 @@
-use Rattle.scm_sessions.specs.Ports.{inner_of}
+use Rattle.scm_sessions.specs.Script.{inner_of}
 use Rattle.scm_monitor.proofs.Telling.{status_told}
 use Rattle.scm_monitor.proofs.run_shared.Goals as goal
 use Rattle.scm_monitor.proofs.run_shared.Goals.{then-options+in_ok-ended, else-options+in_ok-ended-2}

@@ -5,12 +5,9 @@ use Rattle.std.specs.Option.{option_or, option_and_then}
 use Rattle.std.specs.List.{range_with_len}
 use Rattle.std.proofs.lemmas.Bool.{cases_lt}
 use Rattle.scm_sequences.specs.declared.op.Op.{Op}
-use Rattle.scm_sequences.specs.Ops.{cell_of, read_of, written_to}
-use Rattle.scm_sequences.specs.Lengths.{IsWithin}
-use Rattle.scm_sequences.specs.Sequences.{operation, operations, pushed, lengths_of, cut_lists}
+use Rattle.scm_sequences.specs.Sequences.{cell_of, read_of, written_to, IsWithin, operation, operations, pushed, lengths_of, cut_lists}
 use Rattle.scm_sequences.specs.laws.SequenceLaws.{length-pushed, operation-pushed, length-cut_lists, operation-cut_lists, length-operations_cut, lengths_of-cut_lists, cut_lists-whole}
-use Rattle.scm_sequences.specs.Traces.{Trace, trace_of, initial_of, cut_to}
-use Rattle.scm_sequences.specs.Fronts.{count_in, counts_of, IsFront, following, last_written, first_read, value_before, IsLegal, IsSchedule}
+use Rattle.scm_sequences.specs.Traces.{Trace, trace_of, initial_of, cut_to, count_in, counts_of, IsFront, following, last_written, first_read, value_before, IsLegal, IsSchedule}
 use Rattle.scm_sequences.specs.laws.FrontLaws.{slice_index-counts_of, count_in-here, count_in-earlier, count_in_past, last_written-nil, last_written-step, first_read-nil, first_read-step, value_before-is, IsLegal-start, IsLegal-step, IsLegal-earlier, IsLegal-operation, IsLegal-finds, IsFront-from_IsLegal, finds-same}
 
 -- ---- traces that agree on a front

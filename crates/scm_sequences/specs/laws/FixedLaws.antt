@@ -10,11 +10,9 @@ use Rattle.std.proofs.lemmas.List.FromFn.{length-range_with_len, get_or-range_wi
 use Rattle.std.proofs.lemmas.List.Elements.{All-nil, All-cons, All-head, All-tail}
 use Rattle.scm_sequences.specs.declared.op.Op.{Op}
 use Rattle.scm_sequences.specs.declared.op.Op.TheVariants.{R, W, Rw}
-use Rattle.scm_sequences.specs.Ops.{cell_of, read_of, written_to, finds}
-use Rattle.scm_sequences.specs.Traces.{Trace, trace_of, initial_of}
-use Rattle.scm_sequences.specs.Fronts.{count_in, following, last_written, first_read, value_before, IsLegal, IsConsistent}
+use Rattle.scm_sequences.specs.Sequences.{cell_of, read_of, written_to, finds}
+use Rattle.scm_sequences.specs.Traces.{Trace, trace_of, initial_of, count_in, following, last_written, first_read, value_before, IsLegal, IsConsistent, unwritten_read, fixed_value, fixed_values, given, Agrees, ReadsFit, ChosenFit}
 use Rattle.scm_sequences.specs.laws.FrontLaws.{last_written-nil, last_written-step, first_read-nil, first_read-step, value_before-is, IsLegal-start, IsLegal-step, IsLegal-earlier, IsLegal-operation, IsLegal-finds, finds-same}
-use Rattle.scm_sequences.specs.FixedValues.{unwritten_read, fixed_value, fixed_values, given, Agrees, ReadsFit, ChosenFit}
 
 -- ---- place by place
 

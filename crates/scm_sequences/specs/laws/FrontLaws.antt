@@ -7,11 +7,9 @@ use Rattle.std.proofs.lemmas.List.FromFn.{length-map-range_with_len, get_or-map-
 use Rattle.std.proofs.lemmas.List.Sums.{sum_by-cons}
 use Rattle.scm_sequences.specs.declared.op.Op.{Op}
 use Rattle.scm_sequences.specs.declared.op.Op.TheVariants.{R, W, Rw}
-use Rattle.scm_sequences.specs.Ops.{cell_of, read_of, written_to, value_after, may_give, finds}
-use Rattle.scm_sequences.specs.Sequences.{operations}
+use Rattle.scm_sequences.specs.Sequences.{cell_of, read_of, written_to, value_after, may_give, finds, operations}
 use Rattle.scm_sequences.specs.laws.SequenceLaws.{operation_within, process_within, operations_past}
-use Rattle.scm_sequences.specs.Traces.{Trace, initial_of}
-use Rattle.scm_sequences.specs.Fronts.{count_in, counts_of, IsFront, following, last_written, first_read, value_before, IsLegal}
+use Rattle.scm_sequences.specs.Traces.{Trace, initial_of, count_in, counts_of, IsFront, following, last_written, first_read, value_before, IsLegal}
 
 -- ---- counts
 

@@ -3,8 +3,7 @@ use Rattle.std.proofs.Common.{ℕ, ◌<◌, ◌≤◌, List, length, refl, sym, 
 use Rattle.std.proofs.lemmas.Bool.{cases_eq}
 use Rattle.std.proofs.lemmas.List.{length_push}
 use Rattle.scm_sequences.specs.declared.op.Op.{Op}
-use Rattle.scm_sequences.specs.Lengths.{IsWithin}
-use Rattle.scm_sequences.specs.Sequences.{operations, lengths_of, pushed}
+use Rattle.scm_sequences.specs.Sequences.{IsWithin, operations, lengths_of, pushed}
 use Rattle.scm_sequences.specs.laws.SequenceLaws.{length-lengths_of, slice_index-lengths_of, length-pushed, operations-pushed_here, operations-pushed_other}
 
 pub IsWithin-reflexive : (lengths : List ℕ) → IsWithin lengths lengths

@@ -7,9 +7,7 @@ use Rattle.std.proofs.lemmas.List.{length-set, length-map, length-take, length-r
 use Rattle.std.proofs.lemmas.List.Elements.{All-head, All-tail, All-nil, All-get_or, All-set, All-push, All-replicate, All-from_get_or}
 use Rattle.scm_sequences.specs.declared.op.Op.{Op}
 use Rattle.scm_sequences.specs.declared.limits.TheConstants.{MOST_OPERATIONS, MOST_PROCESSES}
-use Rattle.scm_sequences.specs.Ops.{cell_of, NamesCellsBelow}
-use Rattle.scm_sequences.specs.Lengths.{IsWithin}
-use Rattle.scm_sequences.specs.Sequences.{operations, operation, lengths_of, pushed, push_refusal, cut_lists, AreSequences}
+use Rattle.scm_sequences.specs.Sequences.{cell_of, NamesCellsBelow, IsWithin, operations, operation, lengths_of, pushed, push_refusal, cut_lists, AreSequences}
 
 -- ---- what is read of a list
 

@@ -1,7 +1,7 @@
 -- The machine's operations on two numbers are those bit by bit.
 use Rattle.std.proofs.Common.{◌∙◌}
 use Rattle.std.proofs.lemmas.Nat.{or_lt, xor_lt}
-use Rattle.scm_cells.specs.Widths.{bits_of}
+use Rattle.scm_cells.specs.Numbers.{bits_of}
 use Rattle.scm_amo.proofs.Bits.{and_result, or_result, xor_result}
 use Rattle.scm_amo.proofs.results.apply.Goals as goal
 

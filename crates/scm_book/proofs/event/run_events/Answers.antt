@@ -4,7 +4,7 @@ use Rattle.std.specs.Vec.{vec_capacity}
 use Rattle.std.proofs.lemmas.List.{map-append}
 use Rattle.std.proofs.lemmas.Iterator.Consumers.{YieldsList-end}
 use Rattle.std.proofs.lemmas.Iterator.Adapters.{YieldsList-from_vec}
-use Rattle.scm_book.specs.Calls.{ReplyData, reply_data}
+use Rattle.scm_book.specs.Machine.{ReplyData, reply_data}
 use Rattle.scm_book.specs.Events.{EventData, event_data, AnswersAll}
 use Rattle.scm_book.proofs.Answered.{HasAnswered, HasAnswered-more, steps_of-run}
 use Rattle.scm_book.proofs.event.run_events.Goals as goal

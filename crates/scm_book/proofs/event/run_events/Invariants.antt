@@ -1,6 +1,6 @@
 use Rattle.std.proofs.Common.{length, map}
 use Rattle.std.specs.Vec.{vec_capacity}
-use Rattle.scm_book.specs.Calls.{reply_data}
+use Rattle.scm_book.specs.Machine.{reply_data}
 use Rattle.scm_book.specs.Events.{event_data}
 use Rattle.scm_book.proofs.Answered.{HasAnswered}
 use Rattle.scm_book.proofs.event.run_events.Given as goal

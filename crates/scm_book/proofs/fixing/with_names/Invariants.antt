@@ -1,5 +1,5 @@
 use Rattle.std.proofs.Common.{◌≡◌, take}
-use Rattle.scm_book.specs.Verdicts.{named_values}
+use Rattle.scm_book.specs.Machine.{named_values}
 use Rattle.scm_book.proofs.fixing.with_names.Given as goal
 
 -- the values below the index have their names

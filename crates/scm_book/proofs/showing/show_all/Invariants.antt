@@ -1,5 +1,5 @@
 use Rattle.std.proofs.Common.{◌≡◌, map, take}
-use Rattle.scm_book.specs.Showing.{shown_operation}
+use Rattle.scm_book.specs.Machine.{shown_operation}
 use Rattle.scm_book.proofs.showing.show_all.Given as goal
 
 abbrev pub invariant-loop-op : goal.invariant-loop-op

@@ -1,6 +1,6 @@
 use Rattle.std.proofs.Common.{◌≡◌, true, take}
 use Rattle.std.specs.List.{fold, list_all}
-use Rattle.scm_cells.specs.Digits.{held, is_digit_of, with_digit}
+use Rattle.scm_cells.specs.Numbers.{held, is_digit_of, with_digit}
 use Rattle.scm_cells.proofs.digits.read_digits.Given as goal
 
 abbrev pub invariant-loop-byte : goal.invariant-loop-byte

@@ -1,5 +1,5 @@
 use Rattle.std.proofs.Common.{◌≡◌, ◌++◌, drop, option_map}
-use Rattle.scm_embed.specs.Opening.{all_declarations}
+use Rattle.scm_embed.specs.Exports.{all_declarations}
 use Rattle.scm_embed.proofs.opening.read_declarations.Given as goal
 
 -- the declarations are those so far, and those of the cells that are left

@@ -1,7 +1,7 @@
 use Rattle.std.proofs.Common.{◌≡◌, ◌≤◌, length, IfSome}
 use Rattle.clap.specs.Walk.{texts}
 use Rattle.scm_monitor.specs.declared.settings.TheConstants.{MOST_WORKERS}
-use Rattle.scm_monitor.specs.CommandLine.{with_words, nothing_asked}
+use Rattle.scm_monitor.specs.Program.{with_words, nothing_asked}
 use Rattle.scm_monitor.proofs.switches.read_switches.Given as goal
 
 -- what was asked for so far, and by the words that are left, is what all words ask for

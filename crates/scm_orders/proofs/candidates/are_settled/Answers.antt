@@ -1,6 +1,6 @@
 use Rattle.std.proofs.Common.{ℕ, refl, sym, ◌∙◌, arith}
 use borrow.Author.Count.{below_more}
-use Rattle.scm_orders.specs.Candidates.{IsSettled}
+use Rattle.scm_orders.specs.Refuting.{IsSettled}
 use Rattle.scm_orders.proofs.MomentLaws.{place_of}
 use Rattle.scm_orders.proofs.PlaceLaws.{written_within}
 use Rattle.scm_orders.proofs.candidates.are_settled.Goals as goal

@@ -1,5 +1,5 @@
 use Rattle.std.proofs.Common.{ℕ, ◌<◌}
-use Rattle.scm_orders.specs.Candidates.{IsSettled}
+use Rattle.scm_orders.specs.Refuting.{IsSettled}
 use Rattle.scm_orders.proofs.candidates.are_settled.Given as goal
 
 abbrev pub invariant-loop-p : goal.invariant-loop-p

@@ -1,7 +1,7 @@
 use Rattle.std.proofs.Common.{◌≡◌, length, refl, ap, ◌∙◌, arith}
 use borrow.Author.Count.{below_more}
 use Rattle.scm_sequences.specs.Sequences.{operations}
-use Rattle.scm_orders.specs.Candidates.{IsSettled}
+use Rattle.scm_orders.specs.Refuting.{IsSettled}
 use Rattle.scm_orders.proofs.MomentLaws.{place_of}
 use Rattle.scm_orders.proofs.PlaceLaws.{written_within}
 use Rattle.scm_orders.proofs.candidates.is_process_settled.Goals as goal

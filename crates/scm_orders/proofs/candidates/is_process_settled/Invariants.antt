@@ -1,5 +1,5 @@
 use Rattle.std.proofs.Common.{ℕ, ◌<◌}
-use Rattle.scm_orders.specs.Candidates.{IsSettled}
+use Rattle.scm_orders.specs.Refuting.{IsSettled}
 use Rattle.scm_orders.proofs.candidates.is_process_settled.Given as goal
 
 abbrev pub invariant-loop-at : goal.invariant-loop-at

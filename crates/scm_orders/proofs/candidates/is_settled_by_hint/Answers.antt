@@ -1,5 +1,5 @@
 use Rattle.std.proofs.Common.{◌⊎◌, IsSomeAnd, ⊎_elim}
-use Rattle.scm_orders.specs.Candidates.{RulesOut, HasBy}
+use Rattle.scm_orders.specs.Refuting.{RulesOut, HasBy}
 use Rattle.scm_orders.specs.Facts.{fact_at}
 use Rattle.scm_orders.proofs.PlaceLaws.{none_is}
 use Rattle.scm_orders.proofs.HintLaws.{any_parted}

@@ -1,5 +1,5 @@
 use Rattle.std.proofs.Common.{subst}
-use Rattle.scm_orders.specs.Candidates.{LeavesOnly}
+use Rattle.scm_orders.specs.Refuting.{LeavesOnly}
 use Rattle.scm_orders.proofs.PlaceLaws.{one_reading}
 use Rattle.scm_orders.proofs.candidates.leaves.Goals as goal
 

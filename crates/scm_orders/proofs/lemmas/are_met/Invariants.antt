@@ -1,5 +1,5 @@
 use Rattle.std.proofs.Common.{ℕ, ◌<◌, IsSomeAnd, slice_get}
-use Rattle.scm_orders.specs.Lemmas.{IsMet, Assumes, hints_near}
+use Rattle.scm_orders.specs.Refuting.{IsMet, Assumes, hints_near}
 use Rattle.scm_orders.proofs.lemmas.are_met.Given as goal
 
 abbrev pub invariant-loop-k : goal.invariant-loop-k

@@ -1,6 +1,5 @@
 use Rattle.std.proofs.Common.{◌↔◌, drop, ◌+◌, sym, ◌∙◌, arith}
-use Rattle.scm_orders.specs.Facts.{Leads}
-use Rattle.scm_orders.specs.Places.{IsUpTo}
+use Rattle.scm_orders.specs.Facts.{Leads, IsUpTo}
 use Rattle.scm_orders.proofs.HintLaws.{leads_on, leads_none, leads_past, leads_end}
 use Rattle.scm_orders.proofs.showing.leads.Goals as goal
 

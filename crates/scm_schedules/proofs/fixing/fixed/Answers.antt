@@ -1,7 +1,6 @@
 use Rattle.std.proofs.Common.{◌≡◌, IfOk, length, reverse, subst, ap, ◌∙◌}
 use Rattle.std.proofs.lemmas.List.FromFn.{length-map-range_with_len}
-use Rattle.scm_sequences.specs.Traces.{Trace, trace_of}
-use Rattle.scm_sequences.specs.FixedValues.{fixed_value, fixed_values}
+use Rattle.scm_sequences.specs.Traces.{Trace, trace_of, fixed_value, fixed_values}
 use Rattle.scm_schedules.proofs.FixingLaws.{fixed_by, listed_to, listed-fixed_by}
 use Rattle.scm_schedules.proofs.fixing.fixed.Goals as goal
 

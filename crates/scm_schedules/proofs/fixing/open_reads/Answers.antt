@@ -3,15 +3,12 @@ use Rattle.std.proofs.lemmas.List.{take-replicate, length-replicate, get_or-repl
 use Rattle.std.proofs.lemmas.List.FromFn.{length-map-range_with_len}
 use Rattle.scm_sequences.specs.declared.limits.TheConstants.{MOST_CELLS}
 use Rattle.scm_sequences.specs.declared.op.Op.{Op}
-use Rattle.scm_sequences.specs.FixedValues.{fixed_value}
-use Rattle.scm_schedules.specs.Walks.{open_read_of, step_by}
-use Rattle.scm_sequences.specs.Ops.{NamesCellsBelow}
-use Rattle.scm_sequences.specs.Sequences.{operation, lengths_of, cut_lists}
+use Rattle.scm_sequences.specs.Traces.{fixed_value, Trace, trace_of}
+use Rattle.scm_schedules.specs.Refuting.{open_read_of, step_by}
+use Rattle.scm_sequences.specs.Sequences.{NamesCellsBelow, operation, lengths_of, cut_lists}
 use Rattle.scm_sequences.specs.laws.SequenceLaws.{length-lengths_of, cut_lists-whole}
-use Rattle.scm_sequences.specs.Traces.{Trace, trace_of}
-use Rattle.scm_frontier.specs.Situated.{Situated}
+use Rattle.scm_frontier.specs.Situations.{Situated, start_of}
 use Rattle.scm_frontier.specs.laws.StepLaws.{length-counts_situation_of, length-contents_situation_of}
-use Rattle.scm_frontier.specs.Steps.{start_of}
 use Rattle.scm_schedules.proofs.WalkLaws.{Walked, Walked-start, Walked-next}
 use Rattle.scm_schedules.proofs.FixingLaws.{fixed_by-start, refill_set, fixed_next-none, fixed_next-some}
 use Rattle.scm_schedules.proofs.fixing.open_reads.Goals as goal

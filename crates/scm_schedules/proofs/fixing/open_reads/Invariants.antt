@@ -1,7 +1,6 @@
 use Rattle.std.proofs.Common.{◌≡◌, length, map, reverse, take}
 use Rattle.std.specs.List.{range_with_len}
-use Rattle.scm_sequences.specs.Traces.{trace_of}
-use Rattle.scm_sequences.specs.FixedValues.{fixed_value}
+use Rattle.scm_sequences.specs.Traces.{trace_of, fixed_value}
 use Rattle.scm_schedules.proofs.WalkLaws.{Walked}
 use Rattle.scm_schedules.proofs.fixing.open_reads.Given as goal
 

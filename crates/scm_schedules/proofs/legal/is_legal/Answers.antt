@@ -1,13 +1,11 @@
 use Rattle.std.proofs.Common.{ℕ, ◌≡◌, ◌↔◌, List, length, reverse, take, IsTrue, subst, sym, ap, ◌∙◌}
-use Rattle.scm_sequences.specs.Ops.{NamesCellsBelow}
-use Rattle.scm_sequences.specs.Sequences.{lengths_of}
+use Rattle.scm_sequences.specs.Sequences.{NamesCellsBelow, lengths_of}
 use Rattle.scm_sequences.specs.laws.SequenceLaws.{length-lengths_of, length-cut_lists, lengths_of-cut_lists, NamesCellsBelow-cut_lists}
 use Rattle.scm_sequences.specs.Traces.{Trace, trace_of, cut_to}
-use Rattle.scm_frontier.specs.Situated.{Situated}
-use Rattle.scm_frontier.specs.Steps.{start_of}
+use Rattle.scm_frontier.specs.Situations.{Situated, start_of}
 use Rattle.scm_frontier.specs.laws.StepLaws.{length-counts_situation_of, length-contents_situation_of}
 use Rattle.scm_schedules.proofs.WalkLaws.{Walked, Walked-start, Walked-step, Walked-stop, Walked-end}
-use Rattle.scm_schedules.specs.Walks.{step_by}
+use Rattle.scm_schedules.specs.Refuting.{step_by}
 use Rattle.scm_schedules.proofs.legal.is_legal.Goals as goal
 
 -- as many counts as lengths, and as many contents as cells

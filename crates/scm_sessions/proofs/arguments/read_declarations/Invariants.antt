@@ -1,6 +1,5 @@
 use Rattle.std.proofs.Common.{◌≡◌, ◌++◌, length, option_map}
-use Rattle.scm_sessions.specs.Words.{words_of}
-use Rattle.scm_sessions.specs.Asking.{declarations_of_words}
+use Rattle.scm_sessions.specs.Asking.{words_of, declarations_of_words}
 use Rattle.scm_sessions.proofs.arguments.read_declarations.Given as goal
 
 -- the words are the declarations so far, and those that the words of the rest are

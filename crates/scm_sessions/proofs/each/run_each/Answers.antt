@@ -1,5 +1,5 @@
 use Rattle.std.proofs.lemmas.Result.{err_from_is_err_and}
-use Rattle.scm_sessions.specs.Ports.{has_failed}
+use Rattle.scm_sessions.specs.Script.{has_failed}
 use Rattle.scm_sessions.proofs.EachRuns.{ReadGroups-read, begun_reply, FindsGroups-shared, groups_named, RunsGroupsWholeLines-fit, RunsGroupsPart-fit}
 use Rattle.scm_sessions.proofs.each.run_each.Goals as goal
 

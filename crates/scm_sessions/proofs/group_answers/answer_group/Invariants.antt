@@ -1,5 +1,5 @@
 use Rattle.std.proofs.Common.{length}
-use Rattle.scm_sessions.specs.Jobs.{AnsweredLines}
+use Rattle.scm_sessions.specs.inner.Jobs.{AnsweredLines}
 use Rattle.scm_sessions.proofs.group_answers.answer_group.Given as goal
 
 -- the lines that left the queue were answered

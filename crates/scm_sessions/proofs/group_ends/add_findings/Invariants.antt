@@ -1,5 +1,5 @@
 use Rattle.std.proofs.Common.{◌≡◌, take}
-use Rattle.scm_sessions.specs.Jobs.{with_jobs}
+use Rattle.scm_sessions.specs.inner.Jobs.{with_jobs}
 use Rattle.scm_sessions.proofs.group_ends.add_findings.Given as goal
 
 -- what was found in the groups below the index was added

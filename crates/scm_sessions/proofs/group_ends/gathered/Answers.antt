@@ -1,7 +1,7 @@
 use Rattle.std.proofs.Common.{◌∙◌, ap, sym, map-id, rules}
 use Rattle.std.proofs.lemmas.Iterator.Consumers.{YieldsList-turn, YieldsList-end}
 use Rattle.std.proofs.lemmas.Iterator.Adapters.{YieldsList-from_vec}
-use Rattle.scm_sessions.specs.Jobs.{entered_names, entered_passes}
+use Rattle.scm_sessions.specs.inner.Jobs.{entered_names, entered_passes}
 use Rattle.scm_sessions.proofs.Entered.{name_fits, pass_fits, names_more, passes_more}
 use Rattle.scm_sessions.proofs.group_ends.gathered.Goals as goal
 

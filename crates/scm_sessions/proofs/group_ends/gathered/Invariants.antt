@@ -1,5 +1,5 @@
 use Rattle.std.proofs.Common.{◌≡◌, vec_capacity}
-use Rattle.scm_sessions.specs.Jobs.{entered_names, entered_passes}
+use Rattle.scm_sessions.specs.inner.Jobs.{entered_names, entered_passes}
 use Rattle.scm_sessions.proofs.group_ends.gathered.Given as goal
 
 -- the names and passes of the groups so far are gathered

@@ -1,6 +1,6 @@
 use Rattle.std.proofs.Common.{◌≡◌, false}
-use Rattle.scm_sessions.specs.Ports.{inner_of, has_failed}
-use Rattle.scm_sessions.specs.Reading.{left_of, most_bytes_left}
+use Rattle.scm_sessions.specs.Script.{inner_of, has_failed}
+use Rattle.scm_sessions.specs.inner.Reading.{left_of, most_bytes_left}
 use Rattle.scm_sessions.proofs.Running.{HasRun}
 use Rattle.scm_sessions.proofs.run.run_lines.Given as goal
 

@@ -1,7 +1,7 @@
 use Rattle.std.proofs.Common.{◌≡◌, ◌∙◌, ap, sym}
 use Rattle.std.proofs.KnownBytes.{Appends-nil}
-use Rattle.scm_sessions.specs.Answering.{answer_replies}
-use Rattle.scm_sessions.specs.Findings.{with_answer}
+use Rattle.scm_sessions.specs.inner.Answering.{answer_replies}
+use Rattle.scm_sessions.specs.inner.Findings.{with_answer}
 use Rattle.scm_sessions.proofs.run.send_answer.Goals as goal
 
 pub returns-in-Some-clause-answered : goal.returns-in-Some-clause-answered

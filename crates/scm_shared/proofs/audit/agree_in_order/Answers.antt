@@ -1,8 +1,8 @@
 use Rattle.std.proofs.Common.{rules, ℕ, ◌≡◌, ◌<◌, ◌+◌, length, get_or, set, slice_get, slice_index, replicate, Some, refl, sym, ◌∙◌, subst, arith}
 use Rattle.std.proofs.lemmas.List.{length-set}
 use Rattle.scm_sequences.specs.declared.limits.TheConstants.{MOST_SESSIONS}
-use Rattle.scm_book.specs.Calls.{entry_data}
-use Rattle.scm_shared.specs.Audits.{pair_of}
+use Rattle.scm_book.specs.Machine.{entry_data}
+use Rattle.scm_shared.specs.inner.Audits.{pair_of}
 use Rattle.scm_shared.proofs.Meeting.{AreLeft, zeros, all_left-start, all_left-stops, all_left-next, all_left-end, covered-next, beyond-disagrees, covers-whole}
 use Rattle.scm_shared.proofs.audit.agree_in_order.Goals as goal
 use Rattle.scm_shared.proofs.audit.agree_in_order.Goals.{then-session-len-via-then-session-len, then-session-len-via-else-session-len+then-not-is_next}

@@ -1,6 +1,6 @@
 use Rattle.std.proofs.Common.{take, map}
-use Rattle.scm_book.specs.Calls.{entry_data}
-use Rattle.scm_shared.specs.Audits.{AllMatchEntries}
+use Rattle.scm_book.specs.Machine.{entry_data}
+use Rattle.scm_shared.specs.inner.Audits.{AllMatchEntries}
 use Rattle.scm_shared.proofs.audit.all_follow.Given as goal
 
 -- the passes so far follow the journal

@@ -1,6 +1,6 @@
 use Rattle.std.proofs.Common.{rules, ◌≡◌, length, map, true, false, sym, ◌∙◌}
 use Rattle.std.proofs.lemmas.List.{length-map}
-use Rattle.scm_book.specs.Calls.{kept_data}
+use Rattle.scm_book.specs.Machine.{kept_data}
 use Rattle.scm_shared.proofs.Following.{left-own, left-other, left-stops, left-end}
 use Rattle.scm_shared.proofs.comparing.follows.Goals as goal
 use Rattle.scm_shared.proofs.comparing.follows.Goals.{then-entry-session+else-not-is_next, else-entry-session}

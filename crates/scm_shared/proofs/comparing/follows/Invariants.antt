@@ -1,5 +1,5 @@
 use Rattle.std.proofs.Common.{map}
-use Rattle.scm_book.specs.Calls.{kept_data}
+use Rattle.scm_book.specs.Machine.{kept_data}
 use Rattle.scm_shared.proofs.Following.{IsLeft}
 use Rattle.scm_shared.proofs.comparing.follows.Given as goal
 

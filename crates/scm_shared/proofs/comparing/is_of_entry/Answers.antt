@@ -1,6 +1,6 @@
 use Rattle.std.proofs.Common.{◌≡◌, false, true, sym, ap, ap₂, ◌∙◌}
 use Rattle.std.specs.Arc.{arc_value}
-use Rattle.scm_book.specs.Calls.{CallData, ReplyData}
+use Rattle.scm_book.specs.Machine.{CallData, ReplyData}
 use Rattle.scm_book.specs.laws.EqualityLaws.{call_eq-Decides, reply_eq-Decides}
 use Rattle.scm_shared.proofs.comparing.is_of_entry.Goals as goal
 

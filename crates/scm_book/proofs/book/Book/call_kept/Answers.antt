@@ -1,4 +1,4 @@
-use Rattle.scm_book.specs.Calls.{call_data, reply_data}
+use Rattle.scm_book.specs.Machine.{call_data, reply_data}
 use Rattle.scm_book.specs.laws.ReplyLaws.{IsCall-good, IsCall-sessions}
 use Rattle.scm_book.proofs.book.Book.call_kept.Goals as goal
 

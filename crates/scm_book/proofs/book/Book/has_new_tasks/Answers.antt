@@ -1,5 +1,5 @@
 use Rattle.std.proofs.Common.{◌≡◌, ◌↔◌, false, subst}
-use Rattle.scm_book.specs.Workers.{OffersNothingNew}
+use Rattle.scm_book.specs.inner.Workers.{OffersNothingNew}
 use Rattle.scm_book.proofs.book.Book.has_new_tasks.Goals as goal
 
 pub returns : goal.returns

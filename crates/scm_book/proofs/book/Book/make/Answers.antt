@@ -1,11 +1,10 @@
 use Rattle.std.proofs.Common.{◌≡◌, ◌+◌, ◌-◌, false, is_ok, rules, refl, ap, ◌∙◌, ap₂, sym, subst, arith}
 use Rattle.scm_sequences.specs.declared.refusal.Refusal.TheVariants.{JournalFull, NoMemory}
 use Rattle.scm_results.specs.Totals.{capped}
-use Rattle.scm_book.specs.Calls.{call_data, reply_data, refused}
-use Rattle.scm_book.specs.Changes.{tells_of_change}
+use Rattle.scm_book.specs.Machine.{call_data, reply_data, refused, IsStep, IsStepOrNoMemory}
+use Rattle.scm_book.specs.inner.Changes.{tells_of_change}
 use Rattle.scm_book.specs.Journal.{BookState, IsCall, IsLegalHistory, entered}
-use Rattle.scm_book.specs.Sets.{machine_in, sets_in, LeavesSets}
-use Rattle.scm_book.specs.Steps.{IsStep, IsStepOrNoMemory}
+use Rattle.scm_book.specs.inner.Sets.{machine_in, sets_in, LeavesSets}
 use Rattle.scm_book.proofs.Changing.{machine-kept}
 use Rattle.scm_book.proofs.Calling.{IsLegalHistory-more, IsLegalHistory-same, book_of, unreached-full, unreached-no_memory, call-no_memory, call-no_entry, call-entered, step-from_entry, untold, machine-no_entry, kept-of_entry}
 use Rattle.scm_book.proofs.Leaving.{leaves_idle, leaves_uncopied, leaves_counted}

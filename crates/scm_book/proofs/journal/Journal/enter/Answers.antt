@@ -4,9 +4,9 @@ use Rattle.std.proofs.lemmas.List.Sums.{count_by-le-length}
 use Rattle.std.specs.Arc.{arc_value}
 use Rattle.scm_sequences.specs.declared.limits.TheConstants.{MOST_ENTRIES}
 use Rattle.scm_book.specs.declared.entry.Entry.{Entry}
-use Rattle.scm_book.specs.Calls.{ReplyData, EntryData, entry_data, call_data, reply_data}
+use Rattle.scm_book.specs.Machine.{ReplyData, EntryData, entry_data, call_data, reply_data}
 use Rattle.scm_book.specs.Journal.{count_of, entered}
-use Rattle.scm_book.specs.JournalState.{JournalState}
+use Rattle.scm_book.specs.inner.JournalState.{JournalState}
 use Rattle.scm_book.proofs.Counting.{CountsEach-one, AreNumbered-entered, counter_reads, entered-pushed}
 use Rattle.scm_book.proofs.journal.Journal.enter.Goals as goal
 

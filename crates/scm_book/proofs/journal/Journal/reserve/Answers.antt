@@ -1,6 +1,6 @@
 use Rattle.std.proofs.Common.{◌≡◌, ◌+◌, ◌-◌, ◌++◌, List, ℕ, replicate, map, take_all, ap, ◌∙◌, arith}
 use Rattle.std.specs.Vec.{vec_len}
-use Rattle.scm_book.specs.Calls.{entry_data}
+use Rattle.scm_book.specs.Machine.{entry_data}
 use Rattle.scm_book.proofs.Counting.{CountsEach-widened}
 use Rattle.scm_book.proofs.journal.Journal.reserve.Goals as goal
 

@@ -1,9 +1,6 @@
 use Rattle.std.proofs.Common.{◌≡◌, None, Ok, subst}
-use Rattle.scm_book.specs.Calls.{reply_data}
-use Rattle.scm_book.specs.Machine.{TraceState}
-use Rattle.scm_book.specs.Refusals.{question_cause}
-use Rattle.scm_book.specs.Sets.{KeptTrace, asked_lengths}
-use Rattle.scm_book.specs.Steps.{AsksCycle}
+use Rattle.scm_book.specs.Machine.{reply_data, TraceState, question_cause, AsksCycle}
+use Rattle.scm_book.specs.inner.Sets.{KeptTrace, asked_lengths}
 use Rattle.scm_book.proofs.AskedLengths.{asked, cause_none, asks_cycle_found}
 use Rattle.scm_book.proofs.open_trace.OpenTrace.cycle.Goals as goal
 

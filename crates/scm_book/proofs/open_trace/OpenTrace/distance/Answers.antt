@@ -1,6 +1,6 @@
 use Rattle.std.proofs.Common.{◌≡◌, Ok}
 use Rattle.scm_book.specs.Machine.{TraceState}
-use Rattle.scm_book.specs.Sets.{asked_lengths}
+use Rattle.scm_book.specs.inner.Sets.{asked_lengths}
 use Rattle.scm_book.proofs.AskedLengths.{asked, IsWithin-asked}
 use Rattle.scm_book.proofs.open_trace.OpenTrace.distance.Goals as goal
 

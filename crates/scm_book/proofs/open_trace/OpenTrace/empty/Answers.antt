@@ -2,7 +2,7 @@ use Rattle.std.proofs.Common.{◌≡◌, refl, subst, rules, arith}
 use Rattle.scm_sequences.specs.Traces.{trace_of}
 use Rattle.scm_cells.specs.CellLists.{AreCells, initials_of}
 use Rattle.scm_book.specs.Machine.{new_trace}
-use Rattle.scm_book.specs.Sound.{IsSoundTrace}
+use Rattle.scm_book.specs.inner.Sound.{IsSoundTrace}
 use Rattle.scm_book.proofs.Sounding.{IsSoundTrace-new}
 use Rattle.scm_book.proofs.open_trace.OpenTrace.empty.Goals as goal
 

@@ -1,9 +1,8 @@
 use Rattle.std.proofs.Common.{◌≡◌, ◌<◌, ◌^◌, IfSome, arith, length, sum, Ok, refl, sym, subst}
 use Rattle.scm_sequences.specs.Sequences.{lengths_of}
-use Rattle.scm_book.specs.Calls.{reply_data}
-use Rattle.scm_book.specs.Machine.{TraceState}
-use Rattle.scm_book.specs.Plans.{IsExplained}
-use Rattle.scm_book.specs.Sets.{KeptTrace, asked_lengths, most_steps}
+use Rattle.scm_book.specs.Machine.{reply_data, TraceState}
+use Rattle.scm_book.specs.inner.Plans.{IsExplained}
+use Rattle.scm_book.specs.inner.Sets.{KeptTrace, asked_lengths, most_steps}
 use Rattle.scm_book.proofs.AskedLengths.{asked, can_ask, IsWithin-asked}
 use Rattle.scm_book.proofs.KnownSchedulesLaws.{sum-kept}
 use Rattle.scm_book.proofs.Planning.{explained_known}

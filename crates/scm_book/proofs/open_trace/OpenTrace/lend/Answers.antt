@@ -3,10 +3,10 @@ use Rattle.scm_sequences.specs.declared.op.Op.{Op}
 use Rattle.scm_sequences.specs.Traces.{trace_of}
 use Rattle.scm_cells.specs.CellLists.{initials_of}
 use Rattle.scm_reach.specs.Kept.{Kept}
-use Rattle.scm_book.specs.Loans.{CanSearch}
+use Rattle.scm_book.specs.inner.Loans.{CanSearch}
 use Rattle.scm_book.specs.Machine.{TraceState}
-use Rattle.scm_book.specs.Sets.{KeptTrace, asked_lengths, most_steps}
-use Rattle.scm_book.specs.Sound.{IsKeptFor}
+use Rattle.scm_book.specs.inner.Sets.{KeptTrace, asked_lengths, most_steps}
+use Rattle.scm_book.specs.inner.Sound.{IsKeptFor}
 use Rattle.scm_book.proofs.LendingLaws.{can_search, IsKeptFor-start}
 use Rattle.scm_book.proofs.open_trace.OpenTrace.lend.Goals as goal
 

@@ -1,10 +1,8 @@
 use Rattle.std.proofs.Common.{◌≡◌, ◌+◌, ◌<◌, ◌^◌, length, sum, None, Ok, refl, sym, subst, rules}
 use Rattle.scm_sequences.specs.Sequences.{lengths_of}
-use Rattle.scm_book.specs.Asking.{AsksFor}
-use Rattle.scm_book.specs.Calls.{reply_data}
-use Rattle.scm_book.specs.Machine.{TraceState}
-use Rattle.scm_book.specs.Refusals.{question_cause}
-use Rattle.scm_book.specs.Sets.{KeptTrace, asked_lengths, most_steps}
+use Rattle.scm_book.specs.inner.Asking.{AsksFor}
+use Rattle.scm_book.specs.Machine.{reply_data, TraceState, question_cause}
+use Rattle.scm_book.specs.inner.Sets.{KeptTrace, asked_lengths, most_steps}
 use Rattle.scm_book.proofs.AskedLengths.{asked, cause_none, can_ask, asks_for, IsWithin-asked}
 use Rattle.scm_book.proofs.KnownSchedulesLaws.{sum-kept}
 use Rattle.scm_book.proofs.open_trace.OpenTrace.question.Goals as goal

@@ -1,5 +1,5 @@
-use Rattle.scm_book.specs.Calls.{call_data, reply_data}
-use Rattle.scm_book.specs.Sets.{machine_in}
+use Rattle.scm_book.specs.Machine.{call_data, reply_data}
+use Rattle.scm_book.specs.inner.Sets.{machine_in}
 use Rattle.scm_book.proofs.Planning.{carried, known_step, known_leaves}
 use Rattle.scm_book.proofs.traces.Traces.call.Goals as goal
 

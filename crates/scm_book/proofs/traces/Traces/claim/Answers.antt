@@ -1,9 +1,9 @@
 use Rattle.std.proofs.Common.{◌≡◌, None, Some, ap, ◌∙◌, sym, refl, inl}
 use Rattle.std.specs.Option.{option_copied_mut}
 use Rattle.std.specs.Map.{lookup}
-use Rattle.scm_cells.specs.Names.{name_eq}
+use Rattle.scm_cells.specs.CellLists.{name_eq}
 use Rattle.scm_book.specs.Machine.{trace_named, with_trace}
-use Rattle.scm_book.specs.Sets.{machine_in}
+use Rattle.scm_book.specs.inner.Sets.{machine_in}
 use Rattle.scm_book.proofs.Answering.{absent, there_refused, there_done}
 use Rattle.scm_book.proofs.Entries.{state_of, trace_named-lookup, machine-same, machine-set_value, machine-set_same, sets-same, sets-set_same}
 use Rattle.scm_book.proofs.traces.Traces.claim.Goals as goal

@@ -1,7 +1,7 @@
 use Rattle.std.proofs.Common.{◌≡◌, None, Some, ap, ◌∙◌, sym, refl}
 use Rattle.std.specs.Option.{option_copied}
 use Rattle.scm_book.specs.Machine.{trace_named}
-use Rattle.scm_book.specs.Sets.{machine_in}
+use Rattle.scm_book.specs.inner.Sets.{machine_in}
 use Rattle.scm_book.proofs.Answering.{absent, there_refused, there_done}
 use Rattle.scm_book.proofs.Entries.{trace_named-lookup}
 use Rattle.scm_book.proofs.traces.Traces.cycle.Goals as goal

@@ -1,7 +1,7 @@
 use Rattle.std.proofs.Common.{◌∙◌, subst}
 use Rattle.scm_book.specs.Machine.{Machine}
-use Rattle.scm_book.specs.Sets.{machine_in, sets_in}
-use Rattle.scm_book.specs.Workers.{Meets}
+use Rattle.scm_book.specs.inner.Sets.{machine_in, sets_in}
+use Rattle.scm_book.specs.inner.Workers.{Meets}
 use Rattle.scm_book.proofs.Delivering.{Delivers-more}
 use Rattle.scm_book.proofs.traces.Traces.deliver.Goals as goal
 

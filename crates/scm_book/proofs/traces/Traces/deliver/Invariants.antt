@@ -1,6 +1,6 @@
 use Rattle.std.proofs.Common.{◌≡◌}
-use Rattle.scm_book.specs.Sets.{machine_in, sets_in}
-use Rattle.scm_book.specs.Workers.{Delivers}
+use Rattle.scm_book.specs.inner.Sets.{machine_in, sets_in}
+use Rattle.scm_book.specs.inner.Workers.{Delivers}
 use Rattle.scm_book.proofs.traces.Traces.deliver.Given as goal
 
 -- the outcomes so far were delivered

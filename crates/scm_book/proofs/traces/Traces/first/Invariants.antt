@@ -1,4 +1,4 @@
-use Rattle.scm_book.specs.Workers.{Offers}
+use Rattle.scm_book.specs.inner.Workers.{Offers}
 use Rattle.scm_book.proofs.Taking.{HoldsOfNoneBelow}
 use Rattle.scm_book.proofs.traces.Traces.first.Given as goal
 

@@ -1,6 +1,6 @@
 use Rattle.std.proofs.Common.{subst, arith}
-use Rattle.scm_book.specs.Sets.{machine_in, sets_in}
-use Rattle.scm_book.specs.Workers.{OffersNew, OffersNothingNew}
+use Rattle.scm_book.specs.inner.Sets.{machine_in, sets_in}
+use Rattle.scm_book.specs.inner.Workers.{OffersNew, OffersNothingNew}
 use Rattle.scm_book.proofs.Taking.{holds_of_none}
 use Rattle.scm_book.proofs.traces.Traces.first_new.Goals as goal
 

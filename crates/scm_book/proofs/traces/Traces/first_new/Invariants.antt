@@ -1,4 +1,4 @@
-use Rattle.scm_book.specs.Workers.{OffersNew}
+use Rattle.scm_book.specs.inner.Workers.{OffersNew}
 use Rattle.scm_book.proofs.Taking.{HoldsOfNoneBelow}
 use Rattle.scm_book.proofs.traces.Traces.first_new.Given as goal
 

@@ -1,6 +1,6 @@
 use Rattle.std.proofs.Common.{◌≡◌, ◌↔◌, false, subst, sym}
-use Rattle.scm_book.specs.Sets.{machine_in, sets_in}
-use Rattle.scm_book.specs.Workers.{OffersNew, OffersNothingNew}
+use Rattle.scm_book.specs.inner.Sets.{machine_in, sets_in}
+use Rattle.scm_book.specs.inner.Workers.{OffersNew, OffersNothingNew}
 use Rattle.scm_book.proofs.Taking.{finds_none}
 use Rattle.scm_book.proofs.traces.Traces.has_new_tasks.Goals as goal
 

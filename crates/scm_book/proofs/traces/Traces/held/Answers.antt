@@ -1,6 +1,6 @@
 use Rattle.std.proofs.Common.{None, Some, sym, ap, ◌∙◌, rules}
 use Rattle.std.specs.Option.{option_copied}
-use Rattle.scm_book.specs.Sets.{machine_in, sets_in}
+use Rattle.scm_book.specs.inner.Sets.{machine_in, sets_in}
 use Rattle.scm_book.proofs.Entries.{trace_named-lookup, set_named-lookup}
 use Rattle.scm_book.proofs.Leaving.{holds_none, holds_some}
 use Rattle.scm_book.proofs.traces.Traces.held.Goals as goal

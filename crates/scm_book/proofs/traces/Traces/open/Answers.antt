@@ -1,8 +1,8 @@
 use Rattle.std.proofs.Common.{◌≡◌, None, false, is_some, refl, sym, ◌∙◌}
 use Rattle.std.specs.Map.{lookup}
-use Rattle.scm_cells.specs.Names.{name_eq}
-use Rattle.scm_book.specs.Sets.{machine_in}
-use Rattle.scm_book.specs.Refusals.{place_cause}
+use Rattle.scm_cells.specs.CellLists.{name_eq}
+use Rattle.scm_book.specs.inner.Sets.{machine_in}
+use Rattle.scm_book.specs.Machine.{place_cause}
 use Rattle.scm_book.proofs.Answering.{open-no_place, open-done, free-absent}
 use Rattle.scm_book.proofs.Entries.{has_trace, machine-inserted, sets-inserted}
 use Rattle.scm_book.proofs.traces.Traces.open.Goals as goal

@@ -1,7 +1,7 @@
 use Rattle.std.proofs.Common.{◌≡◌, ◌<◌, ◌≤◌, true, false, is_some, length, sym, ◌∙◌, arith}
 use Rattle.scm_sequences.specs.declared.limits.TheConstants.{MOST_TRACES}
 use Rattle.scm_book.specs.Machine.{trace_named}
-use Rattle.scm_book.specs.Sets.{machine_in}
+use Rattle.scm_book.specs.inner.Sets.{machine_in}
 use Rattle.scm_book.proofs.Answering.{place-taken, place-full, place-free}
 use Rattle.scm_book.proofs.Entries.{has_trace, length-traces}
 use Rattle.scm_book.proofs.traces.Traces.place_refusal.Goals as goal

@@ -1,11 +1,10 @@
 use Rattle.std.proofs.Common.{◌≡◌, Some, IfSome, ap, ◌∙◌, sym, subst}
 use Rattle.std.specs.Option.{option_copied_mut}
 use Rattle.std.specs.Map.{lookup}
-use Rattle.scm_cells.specs.Names.{name_eq}
-use Rattle.scm_book.specs.Machine.{Machine}
-use Rattle.scm_book.specs.Plans.{IsExplained, reply_in, loan_in}
-use Rattle.scm_book.specs.Sets.{machine_in}
-use Rattle.scm_book.specs.Steps.{InTrace}
+use Rattle.scm_cells.specs.CellLists.{name_eq}
+use Rattle.scm_book.specs.Machine.{Machine, InTrace}
+use Rattle.scm_book.specs.inner.Plans.{IsExplained, reply_in, loan_in}
+use Rattle.scm_book.specs.inner.Sets.{machine_in}
 use Rattle.scm_book.proofs.Entries.{trace_named-lookup, set_named-lookup, machine-same, machine-set_same, sets-same, sets-set_value}
 use Rattle.scm_book.proofs.LendingLaws.{lent_of}
 use Rattle.scm_book.proofs.Planning.{known_of}

@@ -1,9 +1,9 @@
 use Rattle.std.proofs.Common.{◌≡◌, None, Some, ap, ◌∙◌, sym}
 use Rattle.std.specs.Option.{option_copied_mut}
 use Rattle.std.specs.Map.{lookup}
-use Rattle.scm_cells.specs.Names.{name_eq}
-use Rattle.scm_book.specs.Loans.{Loaned}
-use Rattle.scm_book.specs.Sets.{machine_in}
+use Rattle.scm_cells.specs.CellLists.{name_eq}
+use Rattle.scm_book.specs.inner.Loans.{Loaned}
+use Rattle.scm_book.specs.inner.Sets.{machine_in}
 use Rattle.scm_book.proofs.Entries.{trace_named-lookup, set_named-lookup, machine-set_same, sets-same, sets-set_value}
 use Rattle.scm_book.proofs.LendingLaws.{taken_none, taken_some}
 use Rattle.scm_book.proofs.traces.Traces.take_back.Goals as goal

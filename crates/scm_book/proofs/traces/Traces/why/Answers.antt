@@ -1,10 +1,9 @@
 use Rattle.std.proofs.Common.{◌≡◌, None, Some, ap, ◌∙◌, sym, refl}
 use Rattle.std.specs.Option.{option_copied_mut}
 use Rattle.std.specs.Map.{lookup}
-use Rattle.scm_cells.specs.Names.{name_eq}
-use Rattle.scm_book.specs.Machine.{trace_named}
-use Rattle.scm_book.specs.Calls.{answer_data}
-use Rattle.scm_book.specs.Sets.{machine_in}
+use Rattle.scm_cells.specs.CellLists.{name_eq}
+use Rattle.scm_book.specs.Machine.{trace_named, answer_data}
+use Rattle.scm_book.specs.inner.Sets.{machine_in}
 use Rattle.scm_book.proofs.Answering.{absent, there_refused, there_done}
 use Rattle.scm_book.proofs.Entries.{trace_named-lookup, set_named-lookup, machine-same, machine-set_same, sets-same, sets-set_value}
 use Rattle.scm_book.proofs.Leaving.{searches_answered, searches_none, room_there}

@@ -1,6 +1,6 @@
 use Rattle.std.proofs.Common.{◌≡◌, true, false, is_some, arith, inl, refl, sym, ◌∙◌}
 use Rattle.indexmap.specs.IndexMap.{get_by}
-use Rattle.scm_cells.specs.Names.{name_eq}
+use Rattle.scm_cells.specs.CellLists.{name_eq}
 use Rattle.scm_cells.specs.laws.CellLaws.{AreCells-add}
 use Rattle.scm_cells.proofs.CellMaps.{OnOk-at, add_refusal-full, add_refusal-taken, add_refusal-None, cells_in-insert}
 use Rattle.scm_cells.proofs.cells.Cells.add.Goals as goal

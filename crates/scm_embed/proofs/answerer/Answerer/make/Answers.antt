@@ -1,4 +1,4 @@
-use Rattle.scm_book.specs.Calls.{reply_data}
+use Rattle.scm_book.specs.Machine.{reply_data}
 use Rattle.scm_embed.proofs.answerer.Answerer.make.Goals as goal
 
 pub returns : goal.returns

@@ -2,7 +2,7 @@ use Rattle.std.proofs.Common.{ℕ, ◌<◌, ◌≤◌, List, length, slice_index
 use Rattle.std.proofs.lemmas.List.{get_or_past}
 use Rattle.scm_sequences.specs.Sequences.{operation}
 use Rattle.scm_sequences.specs.laws.SequenceLaws.{operation-cut_lists, operation-cut_lists_past}
-use Rattle.scm_frontier.specs.Situated.{Situated}
+use Rattle.scm_frontier.specs.Situations.{Situated}
 use Rattle.scm_schedules.proofs.walk.Walk.next.Goals as goal
 use Rattle.scm_schedules.proofs.walk.Walk.next.Goals.{else-p-procs-via-then-p-procs+else-deref-p, else-p-procs-via-else-p-procs}
 

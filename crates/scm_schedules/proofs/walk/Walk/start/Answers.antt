@@ -1,7 +1,7 @@
 use Rattle.std.proofs.Common.{◌∙◌}
 use Rattle.std.proofs.lemmas.List.{take-replicate}
 use Rattle.scm_sequences.specs.declared.limits.TheConstants.{MOST_PROCESSES}
-use Rattle.scm_frontier.specs.Steps.{start_of}
+use Rattle.scm_frontier.specs.Situations.{start_of}
 use Rattle.scm_frontier.specs.laws.StepLaws.{same_situated}
 use Rattle.scm_schedules.proofs.walk.Walk.start.Goals as goal
 

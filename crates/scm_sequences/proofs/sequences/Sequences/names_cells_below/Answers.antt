@@ -1,7 +1,7 @@
 use Rattle.std.proofs.Common.{◌<◌, ◌↔◌, List, All, IsTrue, Vec, Global, subst}
 use Rattle.std.proofs.lemmas.List.Elements.{All-map}
 use Rattle.scm_sequences.specs.declared.op.Op.{Op}
-use Rattle.scm_sequences.specs.Ops.{cell_of}
+use Rattle.scm_sequences.specs.Sequences.{cell_of}
 use Rattle.scm_sequences.proofs.Lists.{All-sequences_of}
 use Rattle.scm_sequences.proofs.sequences.Sequences.names_cells_below.Goals as goal
 

@@ -1,6 +1,6 @@
 use Rattle.std.proofs.Common.{◌≡◌, false}
-use Rattle.scm_sessions.specs.Ports.{inner_of, has_failed}
-use Rattle.scm_sessions.specs.Reading.{left_of, most_bytes_left}
+use Rattle.scm_sessions.specs.Script.{inner_of, has_failed}
+use Rattle.scm_sessions.specs.inner.Reading.{left_of, most_bytes_left}
 use Rattle.scm_sessions.proofs.Grouping.{HasGrouped}
 use Rattle.scm_sessions.proofs.groups.Groups.read.Given as goal
 

@@ -1,5 +1,5 @@
 use Rattle.std.proofs.Common.{◌≡◌, ◌<◌, length, rules, sym, None, get_or}
-use Rattle.scm_sessions.specs.Replies.{content_text}
+use Rattle.scm_sessions.specs.Script.{content_text}
 use Rattle.scm_sessions.proofs.Sent.{Sends-trans, Sends-same}
 use Rattle.scm_sessions.proofs.Joining.{joined-take_more}
 use Rattle.scm_sessions.proofs.port.Port.put_contents.Goals as goal

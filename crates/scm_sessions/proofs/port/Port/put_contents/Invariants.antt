@@ -1,6 +1,5 @@
 use Rattle.std.proofs.Common.{◌≡◌, take, map}
-use Rattle.scm_sessions.specs.Ports.{inner_of, has_failed, reads_of, Sends}
-use Rattle.scm_sessions.specs.Replies.{joined, content_text}
+use Rattle.scm_sessions.specs.Script.{inner_of, has_failed, reads_of, Sends, joined, content_text}
 use Rattle.scm_sessions.proofs.port.Port.put_contents.Given as goal
 
 -- the contents below the index are put

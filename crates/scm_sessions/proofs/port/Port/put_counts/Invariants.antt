@@ -1,6 +1,5 @@
 use Rattle.std.proofs.Common.{◌≡◌, take, map, decimal}
-use Rattle.scm_sessions.specs.Ports.{inner_of, has_failed, reads_of, Sends}
-use Rattle.scm_sessions.specs.Replies.{joined}
+use Rattle.scm_sessions.specs.Script.{inner_of, has_failed, reads_of, Sends, joined}
 use Rattle.scm_sessions.proofs.port.Port.put_counts.Given as goal
 
 -- the counts below the index are put

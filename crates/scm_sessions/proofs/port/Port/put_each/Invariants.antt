@@ -1,6 +1,5 @@
 use Rattle.std.proofs.Common.{◌≡◌, take, flat_map}
-use Rattle.scm_sessions.specs.Ports.{inner_of, has_failed, reads_of, Sends}
-use Rattle.scm_sessions.specs.Replies.{shown_text}
+use Rattle.scm_sessions.specs.Script.{inner_of, has_failed, reads_of, Sends, shown_text}
 use Rattle.scm_sessions.proofs.port.Port.put_each.Given as goal
 
 -- the operations below the index are put

@@ -1,6 +1,6 @@
 use Rattle.std.proofs.Common.{◌≡◌, ◌<◌, [], length, rules, get_or, ◌∙◌, ap}
 use Rattle.std.proofs.lemmas.List.{get_or_default}
-use Rattle.scm_book.specs.Calls.{entry_data}
+use Rattle.scm_book.specs.Machine.{entry_data}
 use Rattle.scm_sessions.proofs.Sent.{Sends-trans, Sends-same}
 use Rattle.scm_sessions.proofs.Numbering.{entry_lines-take_more, session_named}
 use Rattle.scm_sessions.proofs.port.Port.put_entries.Goals as goal

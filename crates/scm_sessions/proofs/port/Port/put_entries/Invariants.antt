@@ -1,7 +1,7 @@
 use Rattle.std.proofs.Common.{◌≡◌, map, take}
-use Rattle.scm_book.specs.Calls.{entry_data}
-use Rattle.scm_sessions.specs.Ports.{inner_of, has_failed, reads_of, Sends}
-use Rattle.scm_sessions.specs.JournalText.{entry_lines}
+use Rattle.scm_book.specs.Machine.{entry_data}
+use Rattle.scm_sessions.specs.Script.{inner_of, has_failed, reads_of, Sends}
+use Rattle.scm_sessions.specs.inner.JournalText.{entry_lines}
 use Rattle.scm_sessions.proofs.port.Port.put_entries.Given as goal
 
 -- the entries below the place are put

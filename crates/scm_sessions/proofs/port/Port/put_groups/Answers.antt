@@ -1,4 +1,4 @@
-use Rattle.scm_sessions.specs.Jobs.{job_text}
+use Rattle.scm_sessions.specs.inner.Jobs.{job_text}
 use Rattle.scm_sessions.proofs.Sent.{Sends-trans, Sends-same, flat_map-take_more}
 use Rattle.scm_sessions.proofs.port.Port.put_groups.Goals as goal
 

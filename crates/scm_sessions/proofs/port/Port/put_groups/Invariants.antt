@@ -1,6 +1,6 @@
 use Rattle.std.proofs.Common.{take}
-use Rattle.scm_sessions.specs.Ports.{inner_of, has_failed, Sends}
-use Rattle.scm_sessions.specs.Jobs.{jobs_text}
+use Rattle.scm_sessions.specs.Script.{inner_of, has_failed, Sends}
+use Rattle.scm_sessions.specs.inner.Jobs.{jobs_text}
 use Rattle.scm_sessions.proofs.port.Port.put_groups.Given as goal
 
 -- the replies of the groups below the index are put

@@ -1,5 +1,5 @@
 use Rattle.std.proofs.Common.{rules, refl}
-use Rattle.scm_sessions.specs.Replies.{hint_text}
+use Rattle.scm_sessions.specs.Script.{hint_text}
 use Rattle.scm_sessions.proofs.Sent.{Sends-trans, Sends-same, flat_map-take_more}
 use Rattle.scm_sessions.proofs.port.Port.put_hints.Goals as goal
 

@@ -1,6 +1,5 @@
 use Rattle.std.proofs.Common.{◌≡◌, take, flat_map}
-use Rattle.scm_sessions.specs.Ports.{inner_of, has_failed, reads_of, Sends}
-use Rattle.scm_sessions.specs.Replies.{hint_text}
+use Rattle.scm_sessions.specs.Script.{inner_of, has_failed, reads_of, Sends, hint_text}
 use Rattle.scm_sessions.proofs.port.Port.put_hints.Given as goal
 
 -- the hints below the index are put

@@ -1,6 +1,6 @@
 use Rattle.std.proofs.Common.{◌≡◌, length, sym, ap, ◌∙◌}
 use Rattle.std.proofs.lemmas.List.{length-map}
-use Rattle.scm_book.specs.Calls.{entry_data}
+use Rattle.scm_book.specs.Machine.{entry_data}
 use Rattle.scm_sessions.proofs.Sent.{Sends-trans}
 use Rattle.scm_sessions.proofs.port.Port.put_journal.Goals as goal
 

@@ -1,5 +1,5 @@
 use Rattle.std.proofs.Common.{rules}
-use Rattle.scm_sessions.specs.Replies.{spaced}
+use Rattle.scm_sessions.specs.Script.{spaced}
 use Rattle.scm_sessions.proofs.Sent.{Sends-trans, Sends-same, flat_map-take_more}
 use Rattle.scm_sessions.proofs.port.Port.put_numbers.Goals as goal
 

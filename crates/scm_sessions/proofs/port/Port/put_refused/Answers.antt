@@ -1,5 +1,5 @@
 use Rattle.std.proofs.Common.{◌≡◌}
-use Rattle.scm_sequences.specs.Refusals.{refusal_number, refusal_text}
+use Rattle.scm_sequences.specs.Sequences.{refusal_number, refusal_text}
 use Rattle.scm_sessions.proofs.Sent.{Sends-trans}
 use Rattle.scm_sessions.proofs.port.Port.put_refused.Goals as goal
 

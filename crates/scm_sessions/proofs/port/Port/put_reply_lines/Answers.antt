@@ -1,6 +1,6 @@
 use Rattle.std.proofs.Common.{option_copied}
-use Rattle.scm_book.specs.Calls.{reply_data}
-use Rattle.scm_sessions.specs.Replies.{reply_line}
+use Rattle.scm_book.specs.Machine.{reply_data}
+use Rattle.scm_sessions.specs.Script.{reply_line}
 use Rattle.scm_sessions.proofs.Sent.{Sends-trans, Sends-same, flat_map-map_take_more}
 use Rattle.scm_sessions.proofs.port.Port.put_reply_lines.Goals as goal
 

@@ -1,7 +1,6 @@
 use Rattle.std.proofs.Common.{take, map, flat_map, option_copied}
-use Rattle.scm_book.specs.Calls.{reply_data}
-use Rattle.scm_sessions.specs.Ports.{inner_of, has_failed, Sends}
-use Rattle.scm_sessions.specs.Replies.{reply_line}
+use Rattle.scm_book.specs.Machine.{reply_data}
+use Rattle.scm_sessions.specs.Script.{inner_of, has_failed, Sends, reply_line}
 use Rattle.scm_sessions.proofs.port.Port.put_reply_lines.Given as goal
 
 -- the lines of the replies below the index are put

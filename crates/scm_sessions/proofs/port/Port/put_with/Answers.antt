@@ -1,6 +1,6 @@
 use Rattle.std.proofs.Common.{◌≡◌, ◌<◌, ℕ, List, [], ◌∷◌, ◌++◌, length, codes, flat_map, refl, arith}
 use Rattle.std.proofs.lemmas.Bool.Decides.{nat_tests}
-use Rattle.scm_sessions.specs.Replies.{fixed_text, with_text}
+use Rattle.scm_sessions.specs.Script.{fixed_text, with_text}
 use Rattle.scm_sessions.proofs.Sent.{Sends-trans, Sends-same}
 use Rattle.scm_sessions.proofs.port.Port.put_with.Goals as goal
 

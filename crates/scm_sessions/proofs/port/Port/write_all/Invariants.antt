@@ -1,6 +1,6 @@
 use Rattle.std.proofs.Common.{length, ◌-◌, ◌≡◌, ◌≤◌, take}
 use Rattle.std.specs.Io.KnownBytes.{Appends}
-use Rattle.scm_sessions.specs.Ports.{inner_of, has_failed, reads_of}
+use Rattle.scm_sessions.specs.Script.{inner_of, has_failed, reads_of}
 use Rattle.scm_sessions.proofs.port.Port.write_all.Given as goal
 
 -- the bytes below `at` are written, and no write has failed

@@ -1,4 +1,4 @@
-use Rattle.scm_sessions.specs.Reading.{unread_of}
+use Rattle.scm_sessions.specs.inner.Reading.{unread_of}
 use Rattle.scm_sessions.proofs.Gathering.{feed_within}
 use Rattle.scm_sessions.proofs.reading.LineReader.feed.Goals as goal
 

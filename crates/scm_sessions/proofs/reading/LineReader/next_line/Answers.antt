@@ -1,5 +1,5 @@
 use Rattle.std.proofs.Common.{◌≡◌, ◌<◌, ◌-◌, length, drop, rules, sym, ap, ◌∙◌}
-use Rattle.scm_sessions.specs.Reading.{unread_of}
+use Rattle.scm_sessions.specs.inner.Reading.{unread_of}
 use Rattle.scm_sessions.proofs.Gathering.{unread_length, taken_within, HasGathered-same, HasGathered-all, TakesLine-feed, TakesLine-last}
 use Rattle.scm_sessions.proofs.reading.LineReader.next_line.Goals as goal
 

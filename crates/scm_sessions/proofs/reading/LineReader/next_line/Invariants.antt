@@ -1,7 +1,7 @@
 use Rattle.std.proofs.Common.{◌≡◌, ◌≤◌, length}
 use Rattle.scm_sequences.specs.declared.limits.TheConstants.{LONGEST_LINE}
-use Rattle.scm_sessions.specs.Ports.{has_failed}
-use Rattle.scm_sessions.specs.Reading.{left_of, most_bytes_left}
+use Rattle.scm_sessions.specs.Script.{has_failed}
+use Rattle.scm_sessions.specs.inner.Reading.{left_of, most_bytes_left}
 use Rattle.scm_sessions.proofs.Gathering.{HasGathered}
 use Rattle.scm_sessions.proofs.reading.LineReader.next_line.Given as goal
 

@@ -1,6 +1,6 @@
 use Rattle.std.proofs.Common.{◌≡◌, ◌++◌, ◌-◌, ◌∙◌, ap₂, take, drop, length, min, rules}
 use Rattle.scm_sequences.specs.declared.limits.TheConstants.{LONGEST_LINE}
-use Rattle.scm_sessions.specs.Reading.{unread_of}
+use Rattle.scm_sessions.specs.inner.Reading.{unread_of}
 use Rattle.scm_sessions.proofs.Gathering.{taken_more, unread_is}
 use Rattle.scm_sessions.proofs.reading.LineReader.take_bytes.Goals as goal
 

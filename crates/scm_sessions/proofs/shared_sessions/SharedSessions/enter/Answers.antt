@@ -1,6 +1,6 @@
 use Rattle.std.proofs.Common.{◌≡◌, ◌<◌, ◌≤◌, ℕ, List, length, refl, sym, ap, ◌∙◌, subst, arith, Bool, false}
 use Rattle.scm_sessions.specs.Script.{is_turned_away}
-use Rattle.scm_sessions.specs.Callers.{Callers, callers, made_by}
+use Rattle.scm_sessions.specs.inner.Callers.{Callers, callers, made_by}
 use Rattle.scm_sessions.proofs.Entries.{known_invariant, known_made, new_invariant, new_place, new_made, back_invariant, back_made}
 use Rattle.scm_sessions.proofs.shared_sessions.SharedSessions.enter.Goals as goal
 

@@ -1,6 +1,6 @@
 use Rattle.std.proofs.Common.{◌≡◌, ◌<◌, ℕ, List, length, refl, sym, ap, inl, ◌∙◌, subst}
 use Rattle.scm_sessions.specs.Script.{session_of}
-use Rattle.scm_sessions.specs.Callers.{Callers, callers, made_by}
+use Rattle.scm_sessions.specs.inner.Callers.{Callers, callers, made_by}
 use Rattle.scm_sessions.proofs.Making.{Called-from, called_invariant, called_makes, refused_makes}
 use Rattle.scm_sessions.proofs.shared_sessions.SharedSessionsMakeCalls.call.Goals as goal
 

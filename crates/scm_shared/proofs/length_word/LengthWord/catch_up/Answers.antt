@@ -1,5 +1,5 @@
 use Rattle.std.proofs.Common.{rules, arith, ap}
-use Rattle.scm_shared.specs.Seats.{known_in}
+use Rattle.scm_shared.specs.inner.Seats.{known_in}
 use Rattle.scm_shared.proofs.Moves.{learns_as}
 use Rattle.scm_shared.proofs.Seating.{joined}
 use Rattle.scm_shared.proofs.length_word.LengthWord.catch_up.Goals as goal

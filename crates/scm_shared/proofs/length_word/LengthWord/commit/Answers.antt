@@ -1,5 +1,5 @@
 use Rattle.std.proofs.Common.{rules, arith}
-use Rattle.scm_shared.specs.Seats.{known_in}
+use Rattle.scm_shared.specs.inner.Seats.{known_in}
 use Rattle.scm_shared.proofs.Moves.{commits_as}
 use Rattle.scm_shared.proofs.Seating.{joined}
 use Rattle.scm_shared.proofs.length_word.LengthWord.commit.Goals as goal

@@ -1,11 +1,11 @@
 use Rattle.std.proofs.Common.{◌<◌, ℕ, List, [], ◌∷◌, length, map, map-id, length-append, ap, ◌∙◌, subst, rules, arith}
 use Rattle.std.proofs.lemmas.List.Sums.{sum_by_push}
-use Rattle.scm_book.specs.Calls.{EntryData, entry_data}
+use Rattle.scm_book.specs.Machine.{EntryData, entry_data}
 use Rattle.std.specs.Prelude.{All}
 use Rattle.std.proofs.lemmas.Iterator.Consumers.{YieldsList-end}
 use Rattle.std.proofs.lemmas.Iterator.Adapters.{YieldsList-from_vec}
 use Rattle.scm_shared.specs.Passes.{Known}
-use Rattle.scm_shared.specs.Rule.{FitsHistory}
+use Rattle.scm_shared.specs.inner.Rule.{FitsHistory}
 use Rattle.scm_shared.proofs.Auditing.{agrees, is_given, one_more}
 use Rattle.scm_shared.proofs.locked.Locked.audit.Goals as goal
 

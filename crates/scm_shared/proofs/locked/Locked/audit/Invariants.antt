@@ -1,8 +1,8 @@
 use Rattle.std.proofs.Common.{◌≡◌, ◌+◌, ◌<◌, ◌≤◌, length, sum_by}
 use Rattle.std.specs.Prelude.{All}
 use Rattle.scm_sequences.specs.declared.limits.TheConstants.{MOST_SESSIONS}
-use Rattle.scm_shared.specs.Rule.{FitsHistory}
-use Rattle.scm_shared.specs.Seats.{IsKeeper}
+use Rattle.scm_shared.specs.inner.Rule.{FitsHistory}
+use Rattle.scm_shared.specs.inner.Seats.{IsKeeper}
 use Rattle.scm_shared.proofs.locked.Locked.audit.Given as goal
 
 -- the passes so far fit the journal, their numbers were given, and their shares are together

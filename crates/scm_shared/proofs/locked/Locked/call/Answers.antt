@@ -1,10 +1,10 @@
 use Rattle.std.proofs.Common.{◌≡◌, ℕ, List, [], ◌∷◌, ◌++◌, length, sym, ap, ◌∙◌, subst}
 use Rattle.std.proofs.lemmas.List.{length-map}
-use Rattle.scm_book.specs.Calls.{EntryData, KeptCall, call_data, reply_data, entry_data}
+use Rattle.scm_book.specs.Machine.{EntryData, KeptCall, call_data, reply_data, entry_data}
 use Rattle.scm_book.specs.Journal.{entered}
 use Rattle.scm_shared.specs.Passes.{Known}
-use Rattle.scm_shared.specs.Rule.{FitsHistory, SeatView}
-use Rattle.scm_shared.specs.Seats.{known_in}
+use Rattle.scm_shared.specs.inner.Rule.{FitsHistory, SeatView}
+use Rattle.scm_shared.specs.inner.Seats.{known_in}
 use Rattle.scm_shared.proofs.Passing.{extended, kept_more, seen_all}
 use Rattle.scm_shared.proofs.locked.Locked.call.Goals as goal
 

@@ -1,7 +1,7 @@
 use Rattle.std.proofs.Common.{ℕ, ◌≤◌, length, arith}
 use Rattle.std.proofs.lemmas.List.Elements.{All-weaker}
 use Rattle.scm_shared.specs.Passes.{Known, HasReached}
-use Rattle.scm_shared.specs.Rule.{FitsHistory}
+use Rattle.scm_shared.specs.inner.Rule.{FitsHistory}
 use Rattle.scm_shared.proofs.shared_book.SharedBook.audit.Goals as goal
 
 pub returns-clause-reached : goal.returns-clause-reached

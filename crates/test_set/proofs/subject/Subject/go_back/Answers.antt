@@ -1,6 +1,6 @@
 use Rattle.std.proofs.Common.{ℕ, List, Option, length, sym, subst₂}
 use Rattle.scm_sequences.specs.declared.op.Op.{Op}
-use Rattle.scm_sequences.specs.Ops.{NamesCellsBelow}
+use Rattle.scm_sequences.specs.Sequences.{NamesCellsBelow}
 use Rattle.scm_sequences.specs.laws.SequenceLaws.{NamesCellsBelow-cut_lists}
 use Rattle.scm_sequences.specs.Traces.{trace_of}
 use Rattle.scm_reach.specs.Kept.{IsKept}

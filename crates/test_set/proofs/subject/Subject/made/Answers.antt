@@ -1,6 +1,6 @@
 use Rattle.std.proofs.Common.{refl, ◌≡◌, length, sym, ap, ◌∙◌, subst, rules}
 use Rattle.std.proofs.lemmas.List.{length-map}
-use Rattle.scm_sequences.specs.Ops.{NamesCellsBelow}
+use Rattle.scm_sequences.specs.Sequences.{NamesCellsBelow}
 use Rattle.scm_sequences.specs.Traces.{trace_of}
 use Rattle.scm_cells.specs.CellLists.{Declared}
 use Rattle.test_set.proofs.subject.Subject.made.Goals as goal

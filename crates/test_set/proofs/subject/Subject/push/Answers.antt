@@ -1,7 +1,6 @@
 use Rattle.std.proofs.Common.{ℕ, List, Option, ◌≡◌, ◌<◌, length, sym, subst, subst₂}
 use Rattle.scm_sequences.specs.declared.op.Op.{Op}
-use Rattle.scm_sequences.specs.Ops.{cell_of, NamesCellsBelow}
-use Rattle.scm_sequences.specs.Sequences.{pushed}
+use Rattle.scm_sequences.specs.Sequences.{cell_of, NamesCellsBelow, pushed}
 use Rattle.scm_sequences.specs.laws.SequenceLaws.{NamesCellsBelow-pushed}
 use Rattle.scm_sequences.specs.Traces.{trace_of}
 use Rattle.scm_reach.specs.Kept.{Kept, IsKept}

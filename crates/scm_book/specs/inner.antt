@@ -1,0 +1,9 @@
+pub mod Asking
+pub mod Callers
+pub mod Changes
+pub mod JournalState
+pub mod Loans
+pub mod Plans
+pub mod Sets
+pub mod Sound
+pub mod Workers

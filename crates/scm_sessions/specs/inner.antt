@@ -1,0 +1,11 @@
+pub mod Answering
+pub mod Callers
+pub mod EachRuns
+pub mod Findings
+pub mod Gathered
+pub mod Groups
+pub mod Jobs
+pub mod JournalText
+pub mod Numbered
+pub mod Reading
+pub mod SharedRuns
