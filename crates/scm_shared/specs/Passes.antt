@@ -1,9 +1,10 @@
 -- What a pass knows of the shared book's history, and what a call, `front` and `meet` add to it.
-use Rattle.std.specs.Prelude.{ℕ, ◌≡◌, ◌<◌, ◌≤◌, List, [], ◌∷◌, ◌++◌, length}
+use Rattle.std.specs.Prelude.{ℕ, ◌≡◌, ◌≢◌, ◌<◌, ◌≤◌, true, List, [], ◌∷◌, ◌++◌, length}
 use mathlib.Core.List.{IsPrefix}
 use Rattle.scm_sequences.specs.declared.limits.TheConstants.{MOST_ENTRIES}
-use Rattle.scm_book.specs.Machine.{CallData, ReplyData, EntryData}
-use Rattle.scm_book.specs.Journal.{entered}
+use Rattle.scm_sequences.specs.declared.refusal.Refusal.TheVariants.{BadLine, JournalFull, NoMemory, TooManySessions}
+use Rattle.scm_book.specs.Machine.{CallData, ReplyData, EntryData, refused}
+use Rattle.scm_book.specs.Journal.{makes_entry, entered}
 use Rattle.scm_book.specs.inner.Callers.{calls_by, IsHistory}
 
 pub record Known : Type 0 where
@@ -52,3 +53,12 @@ pub record SeenFull (old new : Known) : Type 0 where
   pub number : new.number ≡ old.number
   pub made : new.made ≡ old.made
   pub own : calls_by new.number new.seen ≡ new.made
+
+-- a call of the pass got this reply: it became an entry, or the journal is full, or memory was refused and the pass is as it was.
+-- No call is a bad line or enters
+pub record IsAnswered (old : Known) (call : CallData) (reply : ReplyData) (new : Known) : Type 0 where
+  pub made : makes_entry reply ≡ true → Extended old call reply new
+  pub full : reply ≡ refused JournalFull → SeenFull old new
+  pub unchanged : reply ≡ refused NoMemory → new ≡ old
+  pub good : reply ≢ refused BadLine
+  pub sessions : reply ≢ refused TooManySessions

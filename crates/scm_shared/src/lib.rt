@@ -5,6 +5,7 @@ mod audit;
 mod caller_counts;
 mod comparing;
 mod length_word;
+mod loans;
 mod locked;
 mod naming;
 mod pass;

@@ -11,14 +11,15 @@ ghost use Rattle.scm_book.specs.inner.Loans.{IsLending, IsLendingForWork, IsTaki
 ghost use Rattle.scm_book.specs.inner.Plans.{IsKnown, known_reply};
 ghost use Rattle.scm_book.specs.inner.Workers.{IsTaking, IsDelivery};
 ghost use Rattle.scm_shared.specs.inner.Locking.{with_one_entered, KeepsCounts, IsLockedCall, IsSearchedCall};
-ghost use Rattle.scm_shared.specs.Passes.{newcomer, Extended, SeenFull};
+ghost use Rattle.scm_shared.specs.Passes.{newcomer, Extended, SeenFull, IsAnswered};
 ghost use Rattle.scm_shared.specs.inner.Seats.{IsKeeper};
 
 use crate::length_word::LengthWord;
+use crate::loans::{BookLoan, CameBack};
 use crate::word::View;
 use crate::{BookNaming, Made, Pass};
 use atomic_table::Seat;
-use scm_book::{Book, Call, Entry, Loan, Outlook, Plan, Reply};
+use scm_book::{Book, Call, Entry, Outlook, Plan, Reply};
 use scm_expand::{Outcome, Task};
 use scm_results::{Results, Tally, Token, Totals};
 use scm_sequences::{MOST_ENTRIES, MOST_SESSIONS, NoMemory, Refusal};
@@ -26,29 +27,6 @@ use std::alloc::Global;
 use std::marker::{Model, PhantomData};
 use std::sync::ledger;
 use std::sync::ledger::{Blank, Share};
-
-/// A question that the book lent, with its set. It has no `Drop`, so it can't be lost: only the lock's value of this book takes
-/// it apart, to take it back.
-pub(crate) struct BookLoan<B: BookNaming> {
-    lent: Loan,
-    of: PhantomData<B>,
-}
-
-impl<B: BookNaming> BookLoan<B> {
-    fn new(lent: Loan) -> BookLoan<B>
-        ensures { result.lent ≡ lent }
-    {
-        BookLoan {
-            lent,
-            of: PhantomData,
-        }
-    }
-
-    /// What was lent.
-    pub(crate) fn lent(&mut self) -> &mut Loan {
-        &mut self.lent
-    }
-}
 
 /// The book, with its seat, which knows the journal; how many passes entered; and the totals of tasks and outcomes, which are
 /// those of the book.
@@ -186,11 +164,7 @@ impl<B: BookNaming> Locked<B> {
         pass: &mut Pass<B>,
         call: Call,
     ) -> Result<Reply, (Call, Option<BookLoan<B>>)>
-        ensures made { IfOk result (λ reply. makes_entry (reply_data reply) ≡ true → Extended pass.old (call_data call) (reply_data reply) pass.new) }
-        ensures full { IfOk result (λ reply. reply_data reply ≡ refused JournalFull → SeenFull pass.old pass.new) }
-        ensures refused { IfOk result (λ reply. reply_data reply ≡ refused WithoutMemory → pass.new ≡ pass.old) }
-        ensures good { IfOk result (λ reply. reply_data reply ≢ refused BadLine) }
-        ensures sessions { IfOk result (λ reply. reply_data reply ≢ refused TooManySessions) }
+        ensures answered { IfOk result (λ reply. IsAnswered pass.old (call_data call) (reply_data reply) pass.new) }
         ensures called { IfOk result (λ reply. IsLockedCall self.old.book pass.old.number (call_data call) (reply_data reply) self.new.book) }
         ensures lent { IfErr result (λ lent. (call_data lent.0 ≡ call_data call) × IsLending self.old.book (call_data call) (option_map (λ loan. loan.lent) lent.1) self.new.book) }
         ensures pass { IfErr result (λ _. pass.new ≡ pass.old) }
@@ -203,24 +177,20 @@ impl<B: BookNaming> Locked<B> {
         }
     }
 
-    /// Takes a question back that was lent, and makes its call.
+    /// Takes a question back that was lent, and makes its call. Those who wait for the set are to be told then.
     pub(crate) fn call_searched(
         &mut self,
         length_word: &LengthWord<B>,
         pass: &mut Pass<B>,
         call: Call,
         loan: BookLoan<B>,
-    ) -> Reply
-        ensures made { makes_entry (reply_data result) ≡ true → Extended pass.old (call_data call) (reply_data result) pass.new }
-        ensures full { reply_data result ≡ refused JournalFull → SeenFull pass.old pass.new }
-        ensures refused { reply_data result ≡ refused WithoutMemory → pass.new ≡ pass.old }
-        ensures good { reply_data result ≢ refused BadLine }
-        ensures sessions { reply_data result ≢ refused TooManySessions }
-        ensures book { IsSearchedCall self.old.book loan.lent pass.old.number (call_data call) (reply_data result) self.new.book }
+    ) -> (Reply, CameBack)
+        ensures answered { IsAnswered pass.old (call_data call) (reply_data result.0) pass.new }
+        ensures book { IsSearchedCall self.old.book loan.lent pass.old.number (call_data call) (reply_data result.0) self.new.book }
         ensures counts { KeepsCounts self.old self.new }
     {
-        self.take_back(loan);
-        self.call(length_word, pass, call, Outlook::Unknown)
+        let back = self.take_back(loan);
+        (self.call(length_word, pass, call, Outlook::Unknown), back)
     }
 
     /// The set of a trace, lent for work.
@@ -233,12 +203,11 @@ impl<B: BookNaming> Locked<B> {
     }
 
     /// Takes back what was lent.
-    pub(crate) fn take_back(&mut self, loan: BookLoan<B>)
+    pub(crate) fn take_back(&mut self, loan: BookLoan<B>) -> CameBack
         ensures book { IsTakingBack self.old.book loan.lent self.new.book }
         ensures counts { KeepsCounts self.old self.new }
     {
-        let BookLoan { lent, of: _ } = loan;
-        self.book.take_back(lent);
+        loan.give_back(&mut self.book)
     }
 
     /// Takes at most `n` tasks, and counts them.

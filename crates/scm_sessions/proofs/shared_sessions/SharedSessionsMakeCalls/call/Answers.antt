@@ -9,7 +9,7 @@ invariant_of-self g c =
     let view = c.self.view_is in
     let is_place : c.in-Ok.place ≡ session_of c.self.inside.names.keys c.args.name = c.in-Ok.ensures.ok.0 ∙ ap (λ (s : Callers). session_of s.names c.args.name) (sym view) in
     let within : c.in-Ok.place < length c.self.inside.passes.items = subst (λ (s : Callers). c.in-Ok.place < length s.passes) (sym view) c.in-Ok.ensures.ok.1 in
-    let called = Called-from _ _ _ _ c.call.ensures.made c.call.ensures.full c.call.ensures.refused c.call.ensures.good c.call.ensures.sessions in
+    let called = Called-from _ _ _ _ c.call.ensures in
     called_invariant _ _ _ _ _ _ _ _ c.self.invariant.1 is_place within _ c.index_mut.ensures.value refl called c.self.invariant.0 c.self.invariant.2
 
 pub returns-in-Ok : goal.returns-in-Ok
@@ -17,7 +17,7 @@ returns-in-Ok g c =
     let view = c.self.view_is in
     let is_place : c.in-Ok.place ≡ session_of c.self.inside.names.keys c.args.name = c.in-Ok.ensures.ok.0 ∙ ap (λ (s : Callers). session_of s.names c.args.name) (sym view) in
     let within : c.in-Ok.place < length c.self.inside.passes.items = subst (λ (s : Callers). c.in-Ok.place < length s.passes) (sym view) c.in-Ok.ensures.ok.1 in
-    let called = Called-from _ _ _ _ c.call.ensures.made c.call.ensures.full c.call.ensures.refused c.call.ensures.good c.call.ensures.sessions in
+    let called = Called-from _ _ _ _ c.call.ensures in
     let entered = λ (other : List ℕ). ap (λ (s : Callers). made_by s other) view ∙ c.in-Ok.ensures.made other in
     inl (called_makes _ _ _ _ _ _ _ _ c.self.invariant.1 is_place within _ c.index_mut.ensures.value refl called _ entered c.call.ensures.good)
 
