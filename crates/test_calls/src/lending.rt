@@ -90,6 +90,19 @@ fn assert_searched(rt: &impl Abort, book: &mut Book) {
     assert!(rt; steps_to_ask(rt, book, "inconsistent") > 0);
 }
 
+/// A process that reported nothing makes no trace short.
+#[test]
+fn a_question_beside_a_silent_process_is_lent(rt: HostRuntime) {
+    let mut book = played(&rt, rt.alloc(), OPEN);
+    play(&rt, rt.alloc(), &mut book, "do t 0 lw x 10");
+    report_stores(&rt, rt.alloc(), &mut book, 1);
+    assert!(rt; book.may_want_work());
+    let loan = searched(&rt, rt.alloc(), &mut book);
+    book.take_back(loan);
+    assert_spared(&rt, &mut book);
+    drop(book);
+}
+
 #[test]
 fn what_was_found_spares_the_question(rt: HostRuntime) {
     let mut book = forbidden(&rt, rt.alloc());
@@ -109,6 +122,18 @@ fn a_question_waits_for_another(rt: HostRuntime) {
     assert!(rt; awaits(&rt, rt.alloc(), &mut book, "why t") && !book.may_want_work());
     book.take_back(loan);
     assert_ready(&rt, rt.alloc(), &mut book, "why t", true);
+    drop(book);
+}
+
+/// No tasks of a set that is lent are for workers, also where its trace got small meanwhile.
+#[test]
+fn a_lent_set_has_no_tasks(rt: HostRuntime) {
+    let mut book = forbidden_in(&rt, rt.alloc(), MARKED);
+    let loan = searched(&rt, rt.alloc(), &mut book);
+    play(&rt, rt.alloc(), &mut book, SMALL_AGAIN);
+    assert!(rt; !book.has_small_tasks(true));
+    book.take_back(loan);
+    assert!(rt; book.has_small_tasks(true));
     drop(book);
 }
 
@@ -138,6 +163,9 @@ const MEANWHILE: [(&str, &str, u64, usize, &str); 5] = [
 
 const MARKED: &str =
     "open t 4 5000 x y z; claim t 0; claim t 1; claim t 2; claim t 3; mark t => ok 0";
+
+/// After a return to the mark another store than was there, and a load that it doesn't explain.
+const SMALL_AGAIN: &str = "back t 0; do t 0 sw x 5; do t 3 lw x 10";
 
 const REOPENED: &str = "close t; open t 4 5000 x y z; claim t 0; claim t 1; claim t 2; claim t 3";
 
@@ -180,6 +208,27 @@ fn a_raised_budget_goes_on(rt: HostRuntime) {
     let spared = steps_to_ask(&rt, &mut book, "inconsistent");
     let steps = steps_to_ask(&rt, &mut forbidden(&rt, rt.alloc()), "inconsistent");
     assert!(rt; 0 < spared && spared < steps);
+    drop(book);
+}
+
+/// Of this trace no schedule is found within a budget of 300, and one is within 3,000.
+const IN_VAIN: &str = "open t 4 300 x0 x1 x2; claim t 0; claim t 1; claim t 2; claim t 3;\
+    do t 0 sw x0 3; do t 0 lw x1 2; do t 0 rw x2 0 1; do t 0 lw x1 1; do t 0 rw x0 0 3; do t 0 sw x0 0;\
+    do t 0 lw x0 2; do t 0 lw x1 2; do t 0 sw x2 2; do t 1 sw x1 2; do t 1 sw x0 0; do t 1 sw x1 2;\
+    do t 1 sw x0 3; do t 1 rw x0 3 1; do t 1 sw x2 3; do t 1 lw x0 1; do t 1 sw x0 3; do t 1 sw x0 2;\
+    do t 2 sw x0 0; do t 2 lw x0 0; do t 2 lw x1 1; do t 2 lw x2 1; do t 2 sw x2 1; do t 2 sw x2 2;\
+    do t 2 sw x1 3; do t 2 lw x1 3; do t 2 rw x1 3 0; do t 3 sw x2 0; do t 3 lw x2 0; do t 3 sw x1 1;\
+    do t 3 lw x1 1; do t 3 sw x0 0; do t 3 sw x1 3; do t 3 lw x2 1; do t 3 sw x0 2; do t 3 rw x1 2 2";
+
+/// A schedule that a lent question looked for in vain is looked for again after a raise meanwhile.
+#[test]
+fn a_raised_budget_proposes_again(rt: HostRuntime) {
+    let mut book = played(&rt, rt.alloc(), IN_VAIN);
+    let loan = searched(&rt, rt.alloc(), &mut book);
+    play(&rt, rt.alloc(), &mut book, "raise t 3000");
+    book.take_back(loan);
+    assert_held(&rt, &book, 300);
+    let _steps = steps_to_ask(&rt, &mut book, "consistent");
     drop(book);
 }
 

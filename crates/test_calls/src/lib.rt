@@ -30,6 +30,8 @@ mod shared_workers;
 #[cfg(test)]
 mod tallies;
 #[cfg(test)]
+mod waiting;
+#[cfg(test)]
 mod words;
 #[cfg(test)]
 mod work;

@@ -27,12 +27,26 @@ const MOST_MILLIS: u64 = 60_000;
 const EMPTY: &str = "open u 1 100 x";
 
 /// A load in t of what nobody stores.
-const NEVER_STORED: &str = "open t 3 20000 x y; claim t 0; claim t 1; claim t 2; do t 2 lw x 2";
+pub(crate) const NEVER_STORED: &str =
+    "open t 3 200000 x y; claim t 0; claim t 1; claim t 2; do t 2 lw x 2";
 
 const STORES: &str = "do t 0 sw x 1; do t 1 sw y 1";
 
 /// So often both stores are reported. So there are more situations than a worker looks for at once.
 const TIMES: usize = 50;
+
+/// Makes both reports so often.
+pub(crate) fn report_stores<B: BookNaming, R: Wait + Abort>(
+    rt: &R,
+    alloc: Global,
+    shared: &SharedBook<B>,
+    pass: &mut Pass<B>,
+    times: usize,
+) {
+    for _ in 0..times {
+        play_shared(rt, alloc, shared, pass, STORES);
+    }
+}
 
 /// Reports to t, and asks about u and t, while a worker is held who comes to search the set of t.
 fn call_while_searching<B: BookNaming, R: Wait + Abort>(
@@ -69,9 +83,7 @@ fn hold<B: BookNaming + Send + Sync, R: Threads + Wait + Abort + Sync>(
     let mut pass = entered(rt, &shared);
     play_shared(rt, alloc, &shared, &mut pass, EMPTY);
     play_shared(rt, alloc, &shared, &mut pass, NEVER_STORED);
-    for _ in 0..TIMES {
-        play_shared(rt, alloc, &shared, &mut pass, STORES);
-    }
+    report_stores(rt, alloc, &shared, &mut pass, TIMES);
     let (_, tallies) = thread::join(
         rt,
         || {
@@ -112,20 +124,18 @@ fn rest_and_ask<B: BookNaming, R: Wait + Abort>(
     pass: &mut Pass<B>,
 ) {
     for times in [TIMES, 1] {
-        for _ in 0..times {
-            play_shared(rt, alloc, shared, pass, STORES);
-        }
+        report_stores(rt, alloc, shared, pass, times);
         assert!(rt; is_worked_off(rt, shared));
     }
     play_shared(rt, alloc, shared, pass, "ask t => inconsistent");
 }
 
-/// Workers begin once the stores were reported so often, and where they were, a question about them was searched.
+/// Workers begin once the book is opened, or once the stores were reported and this question about them was searched.
 fn rest<B: BookNaming + Send + Sync, R: Threads + Wait + Abort + Sync>(
     rt: &R,
     alloc: Global,
     token: BookToken,
-    before: usize,
+    question: Option<&str>,
 ) -> Book
     requires table { token.table.shared.table_id ≡ B.table }
     requires made { (token.made.name ≡ B.made) × (token.made.parts ≡ B.seats) }
@@ -134,11 +144,9 @@ fn rest<B: BookNaming + Send + Sync, R: Threads + Wait + Abort + Sync>(
     let shared = SharedBook::<B>::new(alloc, token);
     let mut pass = entered(rt, &shared);
     play_shared(rt, alloc, &shared, &mut pass, NEVER_STORED);
-    for _ in 0..before {
-        play_shared(rt, alloc, &shared, &mut pass, STORES);
-    }
-    if before > 0 {
-        play_shared(rt, alloc, &shared, &mut pass, "ask t => inconsistent");
+    if let Some(question) = question {
+        report_stores(rt, alloc, &shared, &mut pass, TIMES);
+        play_shared(rt, alloc, &shared, &mut pass, question);
     }
     let (_, tallies) = thread::join(
         rt,
@@ -152,11 +160,16 @@ fn rest<B: BookNaming + Send + Sync, R: Threads + Wait + Abort + Sync>(
     audited(rt, alloc, shared, pass, tallies, WORKERS as u32 + 1)
 }
 
+/// So many situations are found, and none of them under the lock.
+pub(crate) fn assert_rested(rt: &impl Abort, book: &Book, reported: usize) {
+    assert!(rt; book.steps() == 0);
+    assert_held(rt, book, (reported + 1) * (reported + 1));
+}
+
 #[test]
 fn a_rest_spares_the_question(rt: HostRuntime) -> Result<(), Fail> {
-    let book = rest::<Brand, _>(&rt, rt.alloc(), BookToken::new(rt.alloc())?, 0);
-    assert!(rt; book.steps() == 0);
-    assert_held(&rt, &book, (TIMES + 2) * (TIMES + 2));
+    let book = rest::<Brand, _>(&rt, rt.alloc(), BookToken::new(rt.alloc())?, None);
+    assert_rested(&rt, &book, TIMES + 1);
     drop(book);
     Ok(())
 }
@@ -164,8 +177,18 @@ fn a_rest_spares_the_question(rt: HostRuntime) -> Result<(), Fail> {
 /// A question that was searched beside the lock is over.
 #[test]
 fn workers_rest_for_no_question_that_is_over(rt: HostRuntime) -> Result<(), Fail> {
-    let book = rest::<Brand, _>(&rt, rt.alloc(), BookToken::new(rt.alloc())?, TIMES);
-    assert_held(&rt, &book, (2 * TIMES + 2) * (2 * TIMES + 2));
+    let question = Some("ask t => inconsistent");
+    let book = rest::<Brand, _>(&rt, rt.alloc(), BookToken::new(rt.alloc())?, question);
+    assert_rested(&rt, &book, 2 * TIMES + 1);
+    drop(book);
+    Ok(())
+}
+
+#[test]
+fn workers_rest_for_no_refutation_that_is_over(rt: HostRuntime) -> Result<(), Fail> {
+    let question = Some("why t => because 2601");
+    let book = rest::<Brand, _>(&rt, rt.alloc(), BookToken::new(rt.alloc())?, question);
+    assert_rested(&rt, &book, 2 * TIMES + 1);
     drop(book);
     Ok(())
 }

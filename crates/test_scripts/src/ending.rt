@@ -1,6 +1,8 @@
-//! The end of a script while workers expand, whose outcomes come after it.
+//! The end of a script while workers expand, whose outcomes come after it, or search a set, which comes back.
 
 use crate::beside::is_agreed;
+use scm_cells::Name;
+use scm_expand::FreeGate;
 use scm_sessions::{Ended, Findings, Port, RunFault, run_with_workers};
 use scm_shared::BookToken;
 use std::alloc::Global;
@@ -93,4 +95,89 @@ fn outcomes_that_come_after_the_end_are_delivered(rt: HostRuntime) -> Result<(),
         assert_ended(&rt, &ended?, &barrier, workers);
     }
     Ok(())
+}
+
+const OPEN: &str = "a open t 3 1000000 x:w=0 y:w=0\n\
+    a claim t 0\n\
+    a claim t 1\n\
+    a claim t 2\n";
+
+/// A load of what nobody stores. Before it the order of the reports is a schedule, and no worker has to search.
+const NEVER_STORED: &str = "a do t 2 lw x 2\n";
+
+/// So often both stores are reported. So a worker searches longer than it takes to begin.
+const TIMES: usize = 500;
+
+/// All situations of them.
+const SITUATIONS: usize = (TIMES + 1) * (TIMES + 1);
+
+/// The waits for a worker that were tried at most, each twice as long as the last.
+const MOST_TRIES: u32 = 20;
+
+fn long_script(alloc: Global) -> Result<String, Fail> {
+    let mut script = String::new(alloc);
+    script.push_str(OPEN)?;
+    for _ in 0..TIMES {
+        script.push_str("a do t 0 sw x 1\na do t 1 sw y 1\n")?;
+    }
+    script.push_str(NEVER_STORED)?;
+    Ok(script)
+}
+
+/// Gives a script, and its end after so many turns of other threads.
+#[derive(Drop)]
+struct LateReader<'a> {
+    script: &'a [u8],
+    turns: u64,
+}
+
+impl Read for LateReader<'_> {
+    fn read(&mut self, buf: &mut [u8]) -> io::Result<usize> {
+        let given = self.script.read(buf)?;
+        if given == 0 {
+            for _ in 0..self.turns {
+                thread::yield_now();
+            }
+        }
+        Ok(given)
+    }
+}
+
+/// How many situations of t are held once the script has ended beside a worker.
+fn held_in_the_end<T: Threads + Wait + Abort + Sync>(
+    rt: &T,
+    alloc: Global,
+    script: &[u8],
+    turns: u64,
+) -> Result<usize, Fail> {
+    let token = BookToken::new(alloc)?;
+    let mut reader = Port::new(LateReader { script, turns });
+    let mut writer = Port::new(Vec::new(alloc));
+    let ended = run_with_workers::<Brand, _, _, FreeGate, T>(
+        rt,
+        alloc,
+        token,
+        &mut reader,
+        &mut writer,
+        &mut Findings::new(),
+        &FreeGate,
+        1,
+    );
+    let audit = ended?.audit;
+    assert!(rt; is_agreed(&audit, 1));
+    let name = Name::read(b"t").expect(rt, "a name");
+    Ok(audit.book.held(&name).expect(rt, "a trace"))
+}
+
+/// A worker that has begun to search is told to end: what it found is there.
+#[test]
+fn a_set_that_is_lent_at_the_end_comes_back(rt: HostRuntime) -> Result<(), Fail> {
+    let script = long_script(rt.alloc())?;
+    for tries in 0..MOST_TRIES {
+        let held = held_in_the_end(&rt, rt.alloc(), script.as_bytes(), 1 << tries)?;
+        if 1 < held && held < SITUATIONS {
+            return Ok(());
+        }
+    }
+    Err("no set came back in the midst of a search".into())
 }

@@ -46,7 +46,7 @@ const PAUSE_MILLIS: u64 = 8;
 /// Holds every third expansion until three more calls were answered, and has the callers pause together.
 #[derive(Drop)]
 struct Gusts {
-    expansions: AtomicU64,
+    came: AtomicU64,
     answered: AtomicU64,
     paused: AtomicU64,
 }
@@ -54,7 +54,7 @@ struct Gusts {
 impl Gusts {
     fn new() -> Gusts {
         Gusts {
-            expansions: AtomicU64::new(0),
+            came: AtomicU64::new(0),
             answered: AtomicU64::new(0),
             paused: AtomicU64::new(0),
         }
@@ -71,7 +71,7 @@ impl Gusts {
 
 impl Gate for Gusts {
     fn before_expand(&self, _worker: usize) {
-        if self.expansions.fetch_add(1, Ordering::SeqCst) % 3 != 2 {
+        if self.came.fetch_add(1, Ordering::SeqCst) % 3 != 2 {
             return;
         }
         let answered = self.answered.load(Ordering::SeqCst);
@@ -120,7 +120,7 @@ fn wake_crew<B: BookNaming, R: Wait + Abort>(
     if let Some(first) = passes.first_mut() {
         call_all(rt, alloc, shared, gusts, first, CALM);
     }
-    assert!(rt; rises_to(&gusts.expansions, 1));
+    assert!(rt; rises_to(&gusts.came, 1));
 }
 
 /// Makes all turns of one caller, and gives its pass back.
@@ -173,12 +173,12 @@ fn call_and_stop<B: BookNaming + Send + Sync, R: Threads + Wait + Abort + Sync>(
     passes
 }
 
-/// The audit after all callers and workers have ended, and how many calls were answered.
+/// The audit after all callers and workers have ended, how many calls were answered, and how often workers came to the gate.
 fn storm<B: BookNaming + Send + Sync, R: Threads + Wait + Abort + Sync>(
     rt: &R,
     alloc: Global,
     token: BookToken,
-) -> Result<(Audit, u64), Fail>
+) -> Result<(Audit, u64, u64), Fail>
     requires table { token.table.shared.table_id ≡ B.table }
     requires made { (token.made.name ≡ B.made) × (token.made.parts ≡ B.seats) }
     requires totals { (token.totals.taken.name ≡ B.taken) × (token.totals.delivered.name ≡ B.delivered) × (token.totals.taken.parts ≡ B.parts) }
@@ -191,7 +191,8 @@ fn storm<B: BookNaming + Send + Sync, R: Threads + Wait + Abort + Sync>(
         || call_and_stop(rt, alloc, &shared, &gusts, passes),
         || run_workers::<B, SharedBook<B>, Gusts, R>(rt, alloc, &shared, &gusts, WORKERS),
     );
-    Ok((shared.audit(passes?, tallies?), gusts.answered.into_inner()))
+    let (answered, came) = (gusts.answered.into_inner(), gusts.came.into_inner());
+    Ok((shared.audit(passes?, tallies?), answered, came))
 }
 
 /// Stops the test where the audit isn't what it must be after so many calls.
@@ -206,10 +207,10 @@ fn check_audit(rt: &impl Abort, alloc: Global, audit: &Audit, calls: usize) -> R
     Ok(())
 }
 
-/// The same of a storm of passes, in which workers delivered something.
-fn check_passes(rt: &impl Abort, alloc: Global, audit: &Audit, calls: usize) -> Result<(), Fail> {
-    assert!(rt; audit.book.results().delivered() > 0);
-    check_audit(rt, alloc, audit, calls)
+/// Workers delivered something, and came to the gate for sets too, since each outcome came of one time there.
+fn check_work(rt: &impl Abort, audit: &Audit, came: u64) {
+    let delivered = audit.book.results().delivered();
+    assert!(rt; 0 < delivered && delivered < came);
 }
 
 /// Whether another storm may begin.
@@ -222,8 +223,9 @@ fn storm_passes(rt: HostRuntime) -> Result<(), Fail> {
     let alloc = rt.alloc();
     let began = Instant::now(&rt)?;
     for _ in 0..STORMS {
-        let (audit, answered) = storm::<Brand, _>(&rt, alloc, BookToken::new(alloc)?)?;
-        let checked = check_passes(&rt, alloc, &audit, answered as usize);
+        let (audit, answered, came) = storm::<Brand, _>(&rt, alloc, BookToken::new(alloc)?)?;
+        check_work(&rt, &audit, came);
+        let checked = check_audit(&rt, alloc, &audit, answered as usize);
         drop(audit);
         checked?;
         if !has_time(&rt, &began)? {

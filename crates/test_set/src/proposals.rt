@@ -61,35 +61,48 @@ fn consistent_rows_are_decided(rt: HostRuntime) {
     assert!(rt; missed == 3, "{missed}");
 }
 
-/// How many processes, cells and values a trace has.
+/// How many processes, cells and values a trace has, and how many accesses a process makes in the mean before another one does.
 #[derive(Clone, Copy)]
 struct Size {
     processes: u8,
     cells: u8,
     values: u8,
+    turn: u8,
 }
 
 const FEW_VALUES: Size = Size {
     processes: 3,
     cells: 2,
     values: 3,
+    turn: 1,
 };
 
 const SEVERAL_VALUES: Size = Size {
     processes: 4,
     cells: 3,
     values: 8,
+    turn: 1,
+};
+
+const LONG_TURNS: Size = Size {
+    processes: 6,
+    cells: 8,
+    values: 8,
+    turn: 100,
 };
 
 /// What a memory did, whose cells the processes accessed as it came, so many times.
-fn of_size(rt: &impl Abort, alloc: Global, size: Size, seed: u64, accesses: u8) -> Sequences {
+fn of_size(rt: &impl Abort, alloc: Global, size: Size, seed: u64, accesses: u16) -> Sequences {
     let mut dice = Dice::new(seed);
-    let mut contents = [0; 3];
+    let mut contents = [0; 8];
+    let mut process = 0;
     let procs = usize::from(size.processes);
     assert!(rt; 0 < procs && procs <= MOST_PROCESSES);
     let mut sequences = Sequences::new(alloc, procs).expect(rt, "memory");
     for _ in 0..accesses {
-        let process = usize::from(dice.below(size.processes));
+        if size.turn == 1 || dice.below(size.turn) == 0 {
+            process = usize::from(dice.below(size.processes));
+        }
         let cell = dice.below(size.cells);
         let value = u64::from(dice.below(size.values));
         let held = contents.get_mut(usize::from(cell)).expect(rt, "a cell");
@@ -112,12 +125,11 @@ fn decides(
     alloc: Global,
     size: Size,
     seed: u64,
-    accesses: u8,
+    accesses: u16,
     room: usize,
 ) -> bool {
     let sequences = of_size(rt, alloc, size, seed, accesses);
-    let zeros = [Some(0), Some(0), Some(0)];
-    is_decided(rt, alloc, &zeros, &sequences, room)
+    is_decided(rt, alloc, &[Some(0); 8], &sequences, room)
 }
 
 /// Here cases contradict each other: without what is learned from that none of the four is found.
@@ -133,6 +145,14 @@ fn contradictions_are_learned_from(rt: HostRuntime) {
 fn sources_are_searched(rt: HostRuntime) {
     for seed in [2, 8] {
         assert!(rt; decides(&rt, rt.alloc(), SEVERAL_VALUES, seed, 120, 10_000));
+    }
+}
+
+/// Where processes run long alone, any order by their numbers misleads: the turns are searched.
+#[test]
+fn turns_are_searched(rt: HostRuntime) {
+    for seed in [1, 3, 4] {
+        assert!(rt; decides(&rt, rt.alloc(), LONG_TURNS, seed, 900, 60_000));
     }
 }
 
