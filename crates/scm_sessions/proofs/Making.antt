@@ -10,7 +10,7 @@ use Rattle.scm_sequences.specs.declared.refusal.Refusal.TheVariants.{BadLine, No
 use Rattle.scm_cells.specs.CellLists.{name_eq}
 use Rattle.scm_book.specs.Machine.{CallData, ReplyData, done, marked, consistent, inconsistent, undecided, because, cycle, unknown, ops, listed, refused}
 use Rattle.scm_book.specs.Journal.{makes_entry}
-use Rattle.scm_shared.specs.Passes.{Known, newcomer, IsAnswered}
+use Rattle.scm_shared.specs.Passes.{Known, newcomer, IsPassCall}
 use Rattle.scm_sessions.specs.Script.{session_of}
 use Rattle.scm_sessions.specs.inner.SharedRuns.{became_entry}
 use Rattle.scm_sessions.specs.inner.Callers.{Callers, callers, AreNumberedFrom, made_by, MakesCall}
@@ -120,7 +120,7 @@ kept old new call reply became same =
     same ∙ sym (append-nil old.made) ∙ ap (λ c. old.made ++ c) (called-none call reply became)
 
 called_by : (b : Bool) (old new : Known) (call : CallData) (reply : ReplyData) → makes_entry reply ≡ b → became_entry reply ≡ b
-    → IsAnswered old call reply new → Called old call reply new
+    → IsPassCall old call reply new → Called old call reply new
 called_by true old new call reply makes became answered =
     let e = answered.made makes in
     record { number = e.number; made = e.made ∙ ap (λ c. old.made ++ c) (called-some call reply became) }
@@ -132,7 +132,7 @@ called_by false old new call reply makes became answered = at (no_entry reply ma
         let same = answered.unchanged is in
         record { number = ap (λ (p : Known). p.number) same; made = kept old new call reply became (ap (λ (p : Known). p.made) same) }
 
-pub Called-from : (old new : Known) (call : CallData) (reply : ReplyData) → IsAnswered old call reply new → Called old call reply new
+pub Called-from : (old new : Known) (call : CallData) (reply : ReplyData) → IsPassCall old call reply new → Called old call reply new
 Called-from old new call reply answered =
     called_by (makes_entry reply) old new call reply refl (became_is reply answered.good answered.sessions) answered
 

@@ -54,9 +54,9 @@ pub record SeenFull (old new : Known) : Type 0 where
   pub made : new.made ≡ old.made
   pub own : calls_by new.number new.seen ≡ new.made
 
--- a call of the pass got this reply: it became an entry, or the journal is full, or memory was refused and the pass is as it was.
--- No call is a bad line or enters
-pub record IsAnswered (old : Known) (call : CallData) (reply : ReplyData) (new : Known) : Type 0 where
+-- what a call of the pass leaves of it, by the reply: the call became an entry, or the journal was full, or memory was refused and
+-- the pass is as it was. Bad lines and sessions too many are refused elsewhere
+pub record IsPassCall (old : Known) (call : CallData) (reply : ReplyData) (new : Known) : Type 0 where
   pub made : makes_entry reply ≡ true → Extended old call reply new
   pub full : reply ≡ refused JournalFull → SeenFull old new
   pub unchanged : reply ≡ refused NoMemory → new ≡ old

@@ -1,14 +1,16 @@
 //! Loans of the sets that a shared book has: none is lost, and those who wait for one are told once it is back.
 ghost use Rattle.std.specs.Prelude.{◌≡◌};
 ghost use Rattle.scm_book.specs.inner.Loans.{IsTakingBack};
+ghost use Rattle.scm_shared.specs.inner.Locking.{KeepsCounts};
 
 use crate::BookNaming;
-use scm_book::{Book, Loan};
+use crate::locked::Locked;
+use scm_book::Loan;
 use scm_expand::Bell;
 use std::marker::PhantomData;
 use std::sync::Wait;
 
-/// A set that the book lent, with its question, or for work. It has no `Drop`, so it can't be lost: it is given back.
+/// A set that the book lent, for a question or for work. It has no `Drop`, so it can't be lost: it is given back to its book.
 pub(crate) struct BookLoan<B: BookNaming> {
     lent: Loan,
     of: PhantomData<B>,
@@ -29,39 +31,45 @@ impl<B: BookNaming> BookLoan<B> {
         &mut self.lent
     }
 
-    /// Gives the set back to the book.
-    pub(crate) fn give_back(self, book: &mut Book) -> CameBack
-        ensures { IsTakingBack book.old self.lent book.new }
+    /// Gives the set back, of which those who wait for it are to be told.
+    pub(crate) fn give_back(self, locked: &mut Locked<B>) -> CameBack<B>
+        ensures book { IsTakingBack locked.old.book self.lent locked.new.book }
+        ensures counts { KeepsCounts locked.old locked.new }
     {
         let BookLoan { lent, of: _ } = self;
-        book.take_back(lent);
-        CameBack { of: () }
+        locked.book.take_back(lent);
+        CameBack { of: PhantomData }
     }
 }
 
-/// That a set came back. It has no `Drop` either, so those who wait for the set are told.
-pub(crate) struct CameBack {
-    of: (),
+/// That a set of the book came back. It has no `Drop` either: it is told.
+pub(crate) struct CameBack<B: BookNaming> {
+    of: PhantomData<B>,
 }
 
-/// How often sets came back. It stands beside the lock.
+/// Where those wait who want a set of the book that is lent. It stands beside the lock.
 #[derive(Drop)]
-pub(crate) struct Returns {
+pub(crate) struct Returns<B: BookNaming> {
     bell: Bell,
+    of: PhantomData<B>,
 }
 
-impl Returns {
-    pub(crate) fn new() -> Returns {
-        Returns { bell: Bell::new() }
+impl<B: BookNaming> Returns<B> {
+    pub(crate) fn new() -> Returns<B> {
+        Returns {
+            bell: Bell::new(),
+            of: PhantomData,
+        }
     }
 
-    /// Tells all who wait. Who tells holds no lock.
-    pub(crate) fn tell(&self, back: CameBack) {
-        let CameBack { of: () } = back;
+    /// Tells all who wait. Who tells has no lock.
+    pub(crate) fn tell(&self, back: CameBack<B>) {
+        let CameBack { of: _ } = back;
         self.bell.ring();
     }
 
-    /// Waits until sets came back more often than was seen, and gives how often they did. It may come back earlier.
+    /// Waits until a set came back after `seen` was given, and gives the next one to wait with. With 0, which is never given, it
+    /// waits for nothing. It may come back earlier.
     pub(crate) fn wait<R: Wait>(&self, rt: &R, seen: u64) -> u64 {
         self.bell.wait(rt, seen)
     }

@@ -1,17 +1,17 @@
 //! What lies under the lock of a shared book.
-ghost use Rattle.std.specs.Prelude.{◌≡◌, ◌≢◌, ◌+◌, ◌<◌, ◌≤◌, [], true, false, IfErr, IfOk, None, Some, MatchOption, MatchResult, vec_len};
+ghost use Rattle.std.specs.Prelude.{◌≡◌, ◌+◌, ◌<◌, ◌≤◌, [], false, IfErr, IfOk, None, Some, MatchOption, MatchResult, vec_len};
 ghost use Rattle.std.specs.Option.{option_map};
-ghost use Rattle.scm_sequences.specs.declared.refusal.Refusal.TheVariants.{BadLine, JournalFull, NoMemory as WithoutMemory, TooManySessions};
+ghost use Rattle.scm_sequences.specs.declared.refusal.Refusal.TheVariants.{TooManySessions};
 ghost use Rattle.scm_sequences.specs.declared.limits.TheConstants.{MOST_SESSIONS};
 ghost use Rattle.scm_results.specs.declared.naming.TheConstants.{MOST_TALLIES};
 ghost use Rattle.scm_results.specs.Tallies.{nothing, nothing_counted};
-ghost use Rattle.scm_book.specs.Machine.{call_data, reply_data, refused};
+ghost use Rattle.scm_book.specs.Machine.{call_data, reply_data};
 ghost use Rattle.scm_book.specs.Journal.{makes_entry, IsUnchanged};
-ghost use Rattle.scm_book.specs.inner.Loans.{IsLending, IsLendingForWork, IsTakingBack};
+ghost use Rattle.scm_book.specs.inner.Loans.{IsLending, IsLendingForWork};
 ghost use Rattle.scm_book.specs.inner.Plans.{IsKnown, known_reply};
 ghost use Rattle.scm_book.specs.inner.Workers.{IsTaking, IsDelivery};
 ghost use Rattle.scm_shared.specs.inner.Locking.{with_one_entered, KeepsCounts, IsLockedCall, IsSearchedCall};
-ghost use Rattle.scm_shared.specs.Passes.{newcomer, Extended, SeenFull, IsAnswered};
+ghost use Rattle.scm_shared.specs.Passes.{newcomer, IsPassCall};
 ghost use Rattle.scm_shared.specs.inner.Seats.{IsKeeper};
 
 use crate::length_word::LengthWord;
@@ -125,11 +125,7 @@ impl<B: BookNaming> Locked<B> {
         outlook: Outlook,
     ) -> Reply
         requires { IsKnown self.old.book.machine (call_data call) (known_reply outlook) }
-        ensures made { makes_entry (reply_data result) ≡ true → Extended pass.old (call_data call) (reply_data result) pass.new }
-        ensures full { reply_data result ≡ refused JournalFull → SeenFull pass.old pass.new }
-        ensures refused { reply_data result ≡ refused WithoutMemory → pass.new ≡ pass.old }
-        ensures good { reply_data result ≢ refused BadLine }
-        ensures sessions { reply_data result ≢ refused TooManySessions }
+        ensures answered { IsPassCall pass.old (call_data call) (reply_data result) pass.new }
         ensures book { IsLockedCall self.old.book pass.old.number (call_data call) (reply_data result) self.new.book }
         ensures counts { KeepsCounts self.old self.new }
         ensures unchanged { makes_entry (reply_data result) ≡ false → IsUnchanged self.old.book self.new.book }
@@ -164,7 +160,7 @@ impl<B: BookNaming> Locked<B> {
         pass: &mut Pass<B>,
         call: Call,
     ) -> Result<Reply, (Call, Option<BookLoan<B>>)>
-        ensures answered { IfOk result (λ reply. IsAnswered pass.old (call_data call) (reply_data reply) pass.new) }
+        ensures answered { IfOk result (λ reply. IsPassCall pass.old (call_data call) (reply_data reply) pass.new) }
         ensures called { IfOk result (λ reply. IsLockedCall self.old.book pass.old.number (call_data call) (reply_data reply) self.new.book) }
         ensures lent { IfErr result (λ lent. (call_data lent.0 ≡ call_data call) × IsLending self.old.book (call_data call) (option_map (λ loan. loan.lent) lent.1) self.new.book) }
         ensures pass { IfErr result (λ _. pass.new ≡ pass.old) }
@@ -177,19 +173,19 @@ impl<B: BookNaming> Locked<B> {
         }
     }
 
-    /// Takes a question back that was lent, and makes its call. Those who wait for the set are to be told then.
+    /// Takes a question back that was lent, and makes its call. Of the set that came back those who wait for it are to be told.
     pub(crate) fn call_searched(
         &mut self,
         length_word: &LengthWord<B>,
         pass: &mut Pass<B>,
         call: Call,
         loan: BookLoan<B>,
-    ) -> (Reply, CameBack)
-        ensures answered { IsAnswered pass.old (call_data call) (reply_data result.0) pass.new }
+    ) -> (Reply, CameBack<B>)
+        ensures answered { IsPassCall pass.old (call_data call) (reply_data result.0) pass.new }
         ensures book { IsSearchedCall self.old.book loan.lent pass.old.number (call_data call) (reply_data result.0) self.new.book }
         ensures counts { KeepsCounts self.old self.new }
     {
-        let back = self.take_back(loan);
+        let back = loan.give_back(self);
         (self.call(length_word, pass, call, Outlook::Unknown), back)
     }
 
@@ -200,14 +196,6 @@ impl<B: BookNaming> Locked<B> {
     {
         let lent = self.book.lend_work()?;
         Some(BookLoan::new(lent))
-    }
-
-    /// Takes back what was lent.
-    pub(crate) fn take_back(&mut self, loan: BookLoan<B>) -> CameBack
-        ensures book { IsTakingBack self.old.book loan.lent self.new.book }
-        ensures counts { KeepsCounts self.old self.new }
-    {
-        loan.give_back(&mut self.book)
     }
 
     /// Takes at most `n` tasks, and counts them.

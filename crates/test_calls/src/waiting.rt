@@ -1,11 +1,11 @@
 //! That a question about a set which is lent to another one waits for what that one finds.
 ghost use Rattle.std.specs.Prelude.{◌≡◌};
 
-use crate::resting::{NEVER_STORED, assert_rested, report_stores};
+use crate::resting::{NEVER_STORED, assert_found_beside, report_stores};
 use crate::shared::entered;
 use crate::shared_workers::play_shared;
 use scm_book::Book;
-use scm_shared::{BookNaming, BookToken, Pass, SharedBook};
+use scm_shared::{BookNaming, BookToken, SharedBook};
 use std::alloc::Global;
 use std::marker::Brand;
 use std::process::Abort;
@@ -14,7 +14,7 @@ use std::test::Fail;
 use std::thread;
 use std::thread::Threads;
 
-/// So often both stores are reported. So a search takes longer than two threads do to begin.
+/// So often both stores are reported. So the one mostly asks while the other is at its search.
 const TIMES: usize = 200;
 
 /// The book after two asked at once about many situations.
@@ -48,7 +48,7 @@ fn ask_at_once<B: BookNaming + Send + Sync, R: Threads + Wait + Abort + Sync>(
 fn a_question_waits(rt: HostRuntime) -> Result<(), Fail> {
     let token = BookToken::new(rt.alloc())?;
     let book = ask_at_once::<Brand, _>(&rt, rt.alloc(), token, "ask t => inconsistent");
-    assert_rested(&rt, &book, TIMES);
+    assert_found_beside(&rt, &book, TIMES);
     drop(book);
     Ok(())
 }
@@ -57,7 +57,7 @@ fn a_question_waits(rt: HostRuntime) -> Result<(), Fail> {
 fn a_refutation_waits(rt: HostRuntime) -> Result<(), Fail> {
     let token = BookToken::new(rt.alloc())?;
     let book = ask_at_once::<Brand, _>(&rt, rt.alloc(), token, "why t => because 40401");
-    assert_rested(&rt, &book, TIMES);
+    assert_found_beside(&rt, &book, TIMES);
     drop(book);
     Ok(())
 }

@@ -111,7 +111,7 @@ const TIMES: usize = 500;
 /// All situations of them.
 const SITUATIONS: usize = (TIMES + 1) * (TIMES + 1);
 
-/// The waits for a worker that were tried at most, each twice as long as the last.
+/// So many waits for a worker are tried, each twice as long as the last.
 const MOST_TRIES: u32 = 20;
 
 fn long_script(alloc: Global) -> Result<String, Fail> {
@@ -124,34 +124,35 @@ fn long_script(alloc: Global) -> Result<String, Fail> {
     Ok(script)
 }
 
-/// Gives a script, and its end after so many turns of other threads.
+/// Gives a script, and after so many turns of other threads its last line, if any, and its end.
 #[derive(Drop)]
 struct LateReader<'a> {
     script: &'a [u8],
     turns: u64,
+    last: &'a [u8],
 }
 
 impl Read for LateReader<'_> {
     fn read(&mut self, buf: &mut [u8]) -> io::Result<usize> {
         let given = self.script.read(buf)?;
-        if given == 0 {
-            for _ in 0..self.turns {
-                thread::yield_now();
-            }
+        if given != 0 {
+            return Ok(given);
         }
-        Ok(given)
+        for _ in 0..self.turns {
+            thread::yield_now();
+        }
+        self.turns = 0;
+        self.last.read(buf)
     }
 }
 
-/// How many situations of t are held once the script has ended beside a worker.
-fn held_in_the_end<T: Threads + Wait + Abort + Sync>(
+/// How many situations of t are held once the script has ended beside a worker, and what was written.
+fn run_late<T: Threads + Wait + Abort + Sync>(
     rt: &T,
     alloc: Global,
-    script: &[u8],
-    turns: u64,
-) -> Result<usize, Fail> {
+    mut reader: Port<LateReader>,
+) -> Result<(usize, Vec<u8>), Fail> {
     let token = BookToken::new(alloc)?;
-    let mut reader = Port::new(LateReader { script, turns });
     let mut writer = Port::new(Vec::new(alloc));
     let ended = run_with_workers::<Brand, _, _, FreeGate, T>(
         rt,
@@ -166,18 +167,44 @@ fn held_in_the_end<T: Threads + Wait + Abort + Sync>(
     let audit = ended?.audit;
     assert!(rt; is_agreed(&audit, 1));
     let name = Name::read(b"t").expect(rt, "a name");
-    Ok(audit.book.held(&name).expect(rt, "a trace"))
+    let held = audit.book.held(&name).expect(rt, "a trace");
+    Ok((held, writer.into_inner()))
 }
 
 /// A worker that has begun to search is told to end: what it found is there.
 #[test]
 fn a_set_that_is_lent_at_the_end_comes_back(rt: HostRuntime) -> Result<(), Fail> {
-    let script = long_script(rt.alloc())?;
+    let text = long_script(rt.alloc())?;
     for tries in 0..MOST_TRIES {
-        let held = held_in_the_end(&rt, rt.alloc(), script.as_bytes(), 1 << tries)?;
+        let (script, turns) = (text.as_bytes(), 1 << tries);
+        let last: &[u8] = b"";
+        let reader = Port::new(LateReader {
+            script,
+            turns,
+            last,
+        });
+        let (held, _written) = run_late(&rt, rt.alloc(), reader)?;
         if 1 < held && held < SITUATIONS {
             return Ok(());
         }
     }
     Err("no set came back in the midst of a search".into())
+}
+
+/// The last line asks, mostly while a worker has the set: it waits, and is answered.
+#[test]
+fn a_question_that_waits_at_the_end_is_answered(rt: HostRuntime) -> Result<(), Fail> {
+    let text = long_script(rt.alloc())?;
+    for turns in [1, 1_000, 100_000] {
+        let script = text.as_bytes();
+        let last: &[u8] = b"a ask t\n";
+        let reader = Port::new(LateReader {
+            script,
+            turns,
+            last,
+        });
+        let (held, written) = run_late(&rt, rt.alloc(), reader)?;
+        assert!(rt; held == SITUATIONS && written.as_slice().ends_with(b"a inconsistent\n"));
+    }
+    Ok(())
 }

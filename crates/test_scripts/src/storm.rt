@@ -34,7 +34,7 @@ const CALM: &str = "p0 open u 2 100 x:w=0\n\
     p0 do u 0 sw x 1\n\
     p0 do u 1 sw x 2\n";
 
-/// How often a held expansion looks whether it may go on.
+/// How often a held worker looks whether it may go on.
 const MOST_LOOKS: u64 = 1_000;
 
 /// After so many turns all callers pause.
@@ -43,7 +43,7 @@ const TURNS_TO_A_PAUSE: u64 = 20;
 /// For so many milliseconds they do, so that workers work.
 const PAUSE_MILLIS: u64 = 8;
 
-/// Holds every third expansion until three more calls were answered, and has the callers pause together.
+/// Holds a worker each third time that one comes until three more calls were answered, and has the callers pause together.
 #[derive(Drop)]
 struct Gusts {
     came: AtomicU64,
@@ -207,12 +207,6 @@ fn check_audit(rt: &impl Abort, alloc: Global, audit: &Audit, calls: usize) -> R
     Ok(())
 }
 
-/// Workers delivered something, and came to the gate for sets too, since each outcome came of one time there.
-fn check_work(rt: &impl Abort, audit: &Audit, came: u64) {
-    let delivered = audit.book.results().delivered();
-    assert!(rt; 0 < delivered && delivered < came);
-}
-
 /// Whether another storm may begin.
 fn has_time(rt: &impl Clock, began: &Instant) -> io::Result<bool> {
     Ok(began.elapsed(rt)? < Duration::from_secs(MOST_SECONDS))
@@ -222,9 +216,11 @@ fn has_time(rt: &impl Clock, began: &Instant) -> io::Result<bool> {
 fn storm_passes(rt: HostRuntime) -> Result<(), Fail> {
     let alloc = rt.alloc();
     let began = Instant::now(&rt)?;
+    let (mut delivered, mut came) = (0u64, 0u64);
     for _ in 0..STORMS {
-        let (audit, answered, came) = storm::<Brand, _>(&rt, alloc, BookToken::new(alloc)?)?;
-        check_work(&rt, &audit, came);
+        let (audit, answered, times) = storm::<Brand, _>(&rt, alloc, BookToken::new(alloc)?)?;
+        delivered = delivered.saturating_add(audit.book.results().delivered());
+        came = came.saturating_add(times);
         let checked = check_audit(&rt, alloc, &audit, answered as usize);
         drop(audit);
         checked?;
@@ -232,6 +228,8 @@ fn storm_passes(rt: HostRuntime) -> Result<(), Fail> {
             break;
         }
     }
+    // Each outcome came of one time at the gate, and each set of one more.
+    assert!(rt; 0 < delivered && delivered < came);
     Ok(())
 }
 

@@ -61,7 +61,7 @@ fn consistent_rows_are_decided(rt: HostRuntime) {
     assert!(rt; missed == 3, "{missed}");
 }
 
-/// How many processes, cells and values a trace has, and how many accesses a process makes in the mean before another one does.
+/// How many processes, cells and values a trace has, and after how many accesses, in the mean, it is drawn anew who makes them.
 #[derive(Clone, Copy)]
 struct Size {
     processes: u8,

@@ -1,4 +1,4 @@
-use Rattle.test_scripts.proofs.ending.held_in_the_end.Given as goal
+use Rattle.test_scripts.proofs.ending.run_late.Given as goal
 
 abbrev pub ghosts-run_with_workers-B-BookNaming : goal.ghosts-run_with_workers-B-BookNaming
 ghosts-run_with_workers-B-BookNaming g a = record { table = a.token.table.shared.table_id; made = a.token.made.name; seats = a.token.made.parts }
