@@ -160,16 +160,16 @@ fn rest<B: BookNaming + Send + Sync, R: Threads + Wait + Abort + Sync>(
     audited(rt, alloc, shared, pass, tallies, WORKERS as u32 + 1)
 }
 
-/// Both stores were reported so often: all situations of them were found, and none under the lock.
-pub(crate) fn assert_found_beside(rt: &impl Abort, book: &Book, reported: usize) {
+/// So many situations were found, and none under the lock.
+pub(crate) fn assert_found_beside(rt: &impl Abort, book: &Book, count: usize) {
     assert!(rt; book.steps() == 0);
-    assert_held(rt, book, (reported + 1) * (reported + 1));
+    assert_held(rt, book, count);
 }
 
 #[test]
 fn a_rest_spares_the_question(rt: HostRuntime) -> Result<(), Fail> {
     let book = rest::<Brand, _>(&rt, rt.alloc(), BookToken::new(rt.alloc())?, None);
-    assert_found_beside(&rt, &book, TIMES + 1);
+    assert_found_beside(&rt, &book, (TIMES + 2) * (TIMES + 2));
     drop(book);
     Ok(())
 }
@@ -179,7 +179,7 @@ fn a_rest_spares_the_question(rt: HostRuntime) -> Result<(), Fail> {
 fn workers_rest_for_no_question_that_is_over(rt: HostRuntime) -> Result<(), Fail> {
     let question = Some("ask t => inconsistent");
     let book = rest::<Brand, _>(&rt, rt.alloc(), BookToken::new(rt.alloc())?, question);
-    assert_found_beside(&rt, &book, 2 * TIMES + 1);
+    assert_found_beside(&rt, &book, (2 * TIMES + 2) * (2 * TIMES + 2));
     drop(book);
     Ok(())
 }
@@ -188,7 +188,7 @@ fn workers_rest_for_no_question_that_is_over(rt: HostRuntime) -> Result<(), Fail
 fn workers_rest_for_no_refutation_that_is_over(rt: HostRuntime) -> Result<(), Fail> {
     let question = Some("why t => because 2601");
     let book = rest::<Brand, _>(&rt, rt.alloc(), BookToken::new(rt.alloc())?, question);
-    assert_found_beside(&rt, &book, 2 * TIMES + 1);
+    assert_found_beside(&rt, &book, (2 * TIMES + 2) * (2 * TIMES + 2));
     drop(book);
     Ok(())
 }

@@ -17,12 +17,16 @@ use std::thread::Threads;
 /// So often both stores are reported. So the one mostly asks while the other is at its search.
 const TIMES: usize = 200;
 
-/// The book after two asked at once about many situations.
+const ASK: &str = "ask t => inconsistent";
+
+const WHY: &str = "why t => because 40401";
+
+/// The book after two asked at once about many situations, or for the reason.
 fn ask_at_once<B: BookNaming + Send + Sync, R: Threads + Wait + Abort + Sync>(
     rt: &R,
     alloc: Global,
     token: BookToken,
-    question: &str,
+    is_why: bool,
 ) -> Book
     requires table { token.table.shared.table_id ≡ B.table }
     requires made { (token.made.name ≡ B.made) × (token.made.parts ≡ B.seats) }
@@ -33,6 +37,7 @@ fn ask_at_once<B: BookNaming + Send + Sync, R: Threads + Wait + Abort + Sync>(
     let mut other = entered(rt, &shared);
     play_shared(rt, alloc, &shared, &mut one, NEVER_STORED);
     report_stores(rt, alloc, &shared, &mut one, TIMES);
+    let question = if is_why { WHY } else { ASK };
     thread::join(
         rt,
         || play_shared(rt, alloc, &shared, &mut one, question),
@@ -46,18 +51,16 @@ fn ask_at_once<B: BookNaming + Send + Sync, R: Threads + Wait + Abort + Sync>(
 
 #[test]
 fn a_question_waits(rt: HostRuntime) -> Result<(), Fail> {
-    let token = BookToken::new(rt.alloc())?;
-    let book = ask_at_once::<Brand, _>(&rt, rt.alloc(), token, "ask t => inconsistent");
-    assert_found_beside(&rt, &book, TIMES);
+    let book = ask_at_once::<Brand, _>(&rt, rt.alloc(), BookToken::new(rt.alloc())?, false);
+    assert_found_beside(&rt, &book, (TIMES + 1) * (TIMES + 1));
     drop(book);
     Ok(())
 }
 
 #[test]
 fn a_refutation_waits(rt: HostRuntime) -> Result<(), Fail> {
-    let token = BookToken::new(rt.alloc())?;
-    let book = ask_at_once::<Brand, _>(&rt, rt.alloc(), token, "why t => because 40401");
-    assert_found_beside(&rt, &book, TIMES);
+    let book = ask_at_once::<Brand, _>(&rt, rt.alloc(), BookToken::new(rt.alloc())?, true);
+    assert_found_beside(&rt, &book, (TIMES + 1) * (TIMES + 1));
     drop(book);
     Ok(())
 }

@@ -150,9 +150,10 @@ impl Read for LateReader<'_> {
 fn run_late<T: Threads + Wait + Abort + Sync>(
     rt: &T,
     alloc: Global,
-    mut reader: Port<LateReader>,
+    reader: LateReader,
 ) -> Result<(usize, Vec<u8>), Fail> {
     let token = BookToken::new(alloc)?;
+    let mut reader = Port::new(reader);
     let mut writer = Port::new(Vec::new(alloc));
     let ended = run_with_workers::<Brand, _, _, FreeGate, T>(
         rt,
@@ -178,11 +179,11 @@ fn a_set_that_is_lent_at_the_end_comes_back(rt: HostRuntime) -> Result<(), Fail>
     for tries in 0..MOST_TRIES {
         let (script, turns) = (text.as_bytes(), 1 << tries);
         let last: &[u8] = b"";
-        let reader = Port::new(LateReader {
+        let reader = LateReader {
             script,
             turns,
             last,
-        });
+        };
         let (held, _written) = run_late(&rt, rt.alloc(), reader)?;
         if 1 < held && held < SITUATIONS {
             return Ok(());
@@ -198,11 +199,11 @@ fn a_question_that_waits_at_the_end_is_answered(rt: HostRuntime) -> Result<(), F
     for turns in [1, 1_000, 100_000] {
         let script = text.as_bytes();
         let last: &[u8] = b"a ask t\n";
-        let reader = Port::new(LateReader {
+        let reader = LateReader {
             script,
             turns,
             last,
-        });
+        };
         let (held, written) = run_late(&rt, rt.alloc(), reader)?;
         assert!(rt; held == SITUATIONS && written.as_slice().ends_with(b"a inconsistent\n"));
     }
