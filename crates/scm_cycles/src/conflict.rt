@@ -67,7 +67,6 @@ impl Search {
         if level > 0 {
             self.add_needs_of(&mut conflict, &needs)?;
             self.resolve(&mut conflict)?;
-            self.prune(&mut conflict)?;
         }
         Some(conflict)
     }
@@ -184,13 +183,24 @@ impl Search {
         Some(())
     }
 
-    /// Whether an order of the contradiction shows this one by the order of processes.
-    pub(crate) fn is_covered(&self, conflict: &Conflict, from: u32, to: u32) -> Option<bool> {
+    // Whether an order of the contradiction shows this one by the order of processes.
+    fn is_covered(&self, conflict: &Conflict, from: u32, to: u32) -> Option<bool> {
         for order in &conflict.orders {
             if self.covers((order.from, order.to), (from, to))? {
                 return Some(true);
             }
         }
         Some(false)
+    }
+
+    /// The step of the contradiction that shows this order, if one does.
+    pub(crate) fn shown_by(&self, conflict: &Conflict, ends: (u32, u32)) -> Option<Option<u32>> {
+        for id in &conflict.steps {
+            let claim = self.steps.get(*id)?.claim;
+            if claim.is_order() && self.covers((claim.from, claim.to), ends)? {
+                return Some(Some(*id));
+            }
+        }
+        Some(None)
     }
 }

@@ -20,7 +20,6 @@ mod gathering;
 mod lines;
 mod narrowing;
 mod path_pieces;
-mod pruning;
 mod read_facts;
 mod read_views;
 mod rises;
