@@ -2,6 +2,14 @@
 use scm_sequences::{Lengths, Op, Sequences};
 use std::alloc::Global;
 
+pub(crate) fn copy<T: Copy>(alloc: Global, list: &[T]) -> Option<Vec<T>> {
+    let mut copy = Vec::new(alloc);
+    for item in list {
+        copy.push(*item).ok()?;
+    }
+    Some(copy)
+}
+
 /// What the first places of a schedule make: how many operations of each process, and what the cells hold then.
 #[derive(Drop)]
 pub struct Beginning {
@@ -13,15 +21,30 @@ pub struct Beginning {
 impl Beginning {
     /// Before any operation, where the cells hold this (`None` is an open cell). `None` where memory is refused.
     pub fn new(alloc: Global, initials: &[Option<u64>], procs: usize) -> Option<Beginning> {
-        let mut contents = Vec::new(alloc);
-        for initial in initials {
-            contents.push(*initial).ok()?;
-        }
         Some(Beginning {
             counts: vec![in alloc; 0; procs].ok()?,
-            contents,
+            contents: copy(alloc, initials)?,
             len: 0,
         })
+    }
+
+    pub(crate) fn copy(&self, alloc: Global) -> Option<Beginning> {
+        Some(Beginning {
+            counts: copy(alloc, self.counts.as_slice())?,
+            contents: copy(alloc, self.contents.as_slice())?,
+            len: self.len,
+        })
+    }
+
+    /// How many numbers it has.
+    pub(crate) fn size(&self) -> u64 {
+        (self.counts.len() as u64).saturating_add(self.contents.len() as u64)
+    }
+
+    /// Whether the other one makes the same, in any order.
+    pub(crate) fn is_same(&self, other: &Beginning) -> bool {
+        self.counts.as_slice() == other.counts.as_slice()
+            && self.contents.as_slice() == other.contents.as_slice()
     }
 
     /// Makes the operations at these places as long as each is there, within the lengths, and legal.
@@ -33,7 +56,13 @@ impl Beginning {
         }
     }
 
-    fn make(&mut self, sequences: &Sequences, lengths: &Lengths, p: usize) -> Option<()> {
+    /// Makes the next operation of process `p`, where it is there and legal.
+    pub(crate) fn make(
+        &mut self,
+        sequences: &Sequences,
+        lengths: &Lengths,
+        p: usize,
+    ) -> Option<()> {
         let op = next_of(p, *self.counts.get(p)?, sequences, lengths)?;
         if !op.finds(*self.contents.get(op.cell())?) {
             return None;

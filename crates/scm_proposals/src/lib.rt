@@ -2,13 +2,13 @@
 //! believed, and no contract here says more than that a call is safe and ends; `scm_schedules::is_legal` is the judge.
 #![tactic(auto)]
 
+mod accesses;
 mod beginning;
 mod choosing;
 mod ending;
 mod facts;
 mod fuel;
 mod guided_walk;
-mod made_operations;
 mod memory;
 mod numbers;
 mod order;

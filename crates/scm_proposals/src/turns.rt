@@ -1,11 +1,12 @@
 //! A schedule of long turns: one process makes many operations, then another one does.
-use crate::made_operations::{Access, MadeOperations, accesses, copy};
+use crate::accesses::{Access, accesses_of};
+use crate::beginning::{Beginning, copy, next_of};
 use crate::proposal::Proposer;
-use scm_clocks::Given;
+use scm_sequences::{Lengths, Op, Sequences};
 use std::alloc::Global;
 
 /// How many beginnings are kept of each number of turns.
-const KEPT: usize = 128;
+const MOST_BEGINNINGS: usize = 128;
 
 /// How many operations a turn has at least, in the mean, once there are so many turns.
 const LEAST_TURN: u32 = 32;
@@ -13,13 +14,13 @@ const LEAST_TURN: u32 = 32;
 const FIRST_TURNS: u32 = 3;
 
 /// How many operations are looked at for each unit of fuel that is burnt.
-const STEPS_OF_FUEL: u64 = 8;
+const TURN_STEPS_OF_FUEL: u64 = 8;
 
 /// The operations that some turns make, in this order. The last turn is of this process.
 #[derive(Drop)]
 struct Turns {
     schedule: Vec<u8>,
-    made: MadeOperations,
+    made: Beginning,
     last: Option<u32>,
 }
 
@@ -33,8 +34,10 @@ struct NextTurn {
 
 /// The operations of each process, how many there are, and what is left to be burnt, in steps.
 #[derive(Drop)]
-struct TurnSearch {
+struct TurnSearch<'a> {
     alloc: Global,
+    sequences: &'a Sequences,
+    lengths: &'a Lengths,
     accesses: Vec<Vec<Access>>,
     procs: u32,
     ops: u32,
@@ -44,17 +47,34 @@ struct TurnSearch {
 impl Proposer<'_> {
     /// A schedule of long turns, where there are some at the beginning.
     pub(crate) fn complete_by_turns(&self, fuel: &mut u64) -> Option<Vec<u8>> {
-        let given = self.given(0)?;
+        let nothing = Turns {
+            schedule: Vec::new(self.alloc),
+            made: Beginning::new(self.alloc, self.initials, self.counts.len())?,
+            last: None,
+        };
         let mut search = TurnSearch {
             alloc: self.alloc,
-            accesses: accesses(self.alloc, &given)?,
-            procs: given.numbering.procs()?,
-            ops: given.numbering.len()?,
-            steps: fuel.saturating_mul(STEPS_OF_FUEL),
+            sequences: self.sequences,
+            lengths: self.lengths,
+            accesses: self.accesses()?,
+            procs: u32::try_from(self.counts.len()).ok()?,
+            ops: u32::try_from(nothing.made.left(self.lengths)).ok()?,
+            steps: fuel.saturating_mul(TURN_STEPS_OF_FUEL),
         };
-        let schedule = search.find(&given);
-        *fuel = search.steps / STEPS_OF_FUEL;
+        let schedule = search.find(nothing);
+        *fuel = search.steps / TURN_STEPS_OF_FUEL;
         schedule
+    }
+
+    fn accesses(&self) -> Option<Vec<Vec<Access>>> {
+        let mut accesses = Vec::new(self.alloc);
+        for (p, count) in self.counts.iter().enumerate() {
+            let ops = self.sequences.operations(p).get(..*count as usize)?;
+            accesses
+                .push(accesses_of(self.alloc, ops, self.initials.len())?)
+                .ok()?;
+        }
+        Some(accesses)
     }
 }
 
@@ -64,11 +84,11 @@ fn are_made(kept: &[Turns], turns: &Turns) -> bool {
         .any(|other: &Turns| other.made.is_same(&turns.made))
 }
 
-impl TurnSearch {
+impl TurnSearch<'_> {
     // Adds turns to the best beginnings, until one has all operations or turns get short.
-    fn find(&mut self, given: &Given) -> Option<Vec<u8>> {
+    fn find(&mut self, nothing: Turns) -> Option<Vec<u8>> {
         let mut kept = Vec::new(self.alloc);
-        kept.push(self.nothing(given)?).ok()?;
+        kept.push(nothing).ok()?;
         for number in 1..=self.ops {
             kept = self.add_turns(&kept)?;
             let most = longest(&kept)?;
@@ -81,14 +101,6 @@ impl TurnSearch {
             }
         }
         None
-    }
-
-    fn nothing(&self, given: &Given) -> Option<Turns> {
-        Some(Turns {
-            schedule: Vec::new(self.alloc),
-            made: MadeOperations::nothing(self.alloc, self.procs, given)?,
-            last: None,
-        })
     }
 
     // The best of all that have one turn more.
@@ -122,8 +134,8 @@ impl TurnSearch {
         self.burn(turns.made.size())?;
         let mut made = turns.made.copy(self.alloc)?;
         for len in 1..=most {
-            made.make(process, self.next(&made, process)?)?;
-            if len < most && self.next(&made, process)?.is_read {
+            made.make(self.sequences, self.lengths, process as usize)?;
+            if len < most && matches!(self.next(&made, process)?, Op::R { .. }) {
                 continue;
             }
             let more = self.longest_run(&made, process)?;
@@ -139,7 +151,7 @@ impl TurnSearch {
     }
 
     // How many operations a process can make one after the other.
-    fn run(&mut self, made: &MadeOperations, process: u32) -> Option<u32> {
+    fn run(&mut self, made: &Beginning, process: u32) -> Option<u32> {
         let from = *made.counts.get(process as usize)?;
         let left = self.accesses.get(process as usize)?.get(from as usize..)?;
         let mut len: u32 = 0;
@@ -147,7 +159,7 @@ impl TurnSearch {
             let fits = if access.earlier > from {
                 access.follows
             } else {
-                made.finds(*access)?
+                access.op.finds(*made.contents.get(access.op.cell())?)
             };
             if !fits {
                 break;
@@ -159,7 +171,7 @@ impl TurnSearch {
     }
 
     // How many operations some other process can make.
-    fn longest_run(&mut self, made: &MadeOperations, process: u32) -> Option<u32> {
+    fn longest_run(&mut self, made: &Beginning, process: u32) -> Option<u32> {
         let mut most = 0;
         for other in 0..self.procs {
             if other != process {
@@ -169,19 +181,16 @@ impl TurnSearch {
         Some(most)
     }
 
-    fn next(&self, made: &MadeOperations, process: u32) -> Option<Access> {
-        let count = *made.counts.get(process as usize)?;
-        self.accesses
-            .get(process as usize)?
-            .get(count as usize)
-            .copied()
+    fn next(&self, made: &Beginning, process: u32) -> Option<Op> {
+        let p = process as usize;
+        next_of(p, *made.counts.get(p)?, self.sequences, self.lengths)
     }
 
     // Of those that are the same but for their order one is kept.
     fn keep_best(&mut self, beginnings: &[Turns], next: &[Vec<NextTurn>]) -> Option<Vec<Turns>> {
         let mut kept = Vec::new(self.alloc);
         for turn in next.iter().rev().flat_map(|turns| turns.iter()) {
-            if kept.len() >= KEPT {
+            if kept.len() >= MOST_BEGINNINGS {
                 break;
             }
             let turns = self.with(beginnings.get(turn.beginning)?, *turn)?;
@@ -210,20 +219,20 @@ impl TurnSearch {
         })
     }
 
-    fn make(&self, schedule: &mut Vec<u8>, made: &mut MadeOperations, process: u32) -> Option<()> {
-        let access = self.next(made, process)?;
+    fn make(&self, schedule: &mut Vec<u8>, made: &mut Beginning, process: u32) -> Option<()> {
         schedule.push(u8::try_from(process).ok()?).ok()?;
-        made.make(process, access)
+        made.make(self.sequences, self.lengths, process as usize)
     }
 
     fn make_reads(
         &mut self,
         schedule: &mut Vec<u8>,
-        made: &mut MadeOperations,
+        made: &mut Beginning,
         process: u32,
     ) -> Option<()> {
         for _ in 0..self.run(made, process)? {
-            if !made.is_kept_by(self.next(made, process)?)? {
+            let op = self.next(made, process)?;
+            if !matches!(op, Op::R { .. }) || made.contents.get(op.cell())?.is_none() {
                 break;
             }
             self.make(schedule, made, process)?;
