@@ -12,7 +12,7 @@ pub const SKEWS: u64 = 4;
 /// How much less than two for each doubling the first skew is, and what it is for the shortest traces, in tenths.
 const SKEW_OFFSET: u64 = 30;
 
-const LEAST_SKEW: u64 = 18;
+const LEAST_FIRST_SKEW: u64 = 18;
 
 /// How many hundredths of the fuel that is left each skew may burn.
 const FUEL_SHARE: u64 = 85;
@@ -74,7 +74,7 @@ impl Search {
             u64::from(doublings)
                 .saturating_mul(2)
                 .saturating_sub(SKEW_OFFSET)
-                .max(LEAST_SKEW),
+                .max(LEAST_FIRST_SKEW),
         )
     }
 

@@ -30,7 +30,7 @@ const SITUATIONS_OF_PATIENCE: usize = 8;
 const PRICE_OF_VISIT: u64 = 2;
 
 /// By which part of the first skew those of a whole trace grow.
-const SKEW_PART: u64 = 5;
+const SKEW_DIVISOR: u64 = 5;
 
 /// How many places of an earlier schedule are put together anew when all of it can't be kept: at first so many, then
 /// each time so many times more.
@@ -152,7 +152,7 @@ impl Proposer<'_> {
             return Some(schedule);
         }
         *fuel = fuel.saturating_sub(most.saturating_sub(left));
-        let mut guess = find_sources(self.alloc, self.given(0)?, 0..SKEWS + 1, SKEW_PART, fuel)?;
+        let mut guess = find_sources(self.alloc, self.given(0)?, 0..SKEWS + 1, SKEW_DIVISOR, fuel)?;
         guess.clocks = Clocks::new(self.alloc, &guess.given.numbering)?;
         self.complete_by(guess, fuel)
     }

@@ -18,7 +18,7 @@ const MOST_WIDTHS: u32 = 4;
 
 /// By which part of the first skew those of windows grow: by more than for a whole trace, since it isn't known how far each
 /// process is ahead where a window begins.
-const SKEW_PART: u64 = 3;
+const WINDOW_SKEW_DIVISOR: u64 = 3;
 
 /// Of how many sixteenths of a window it is checked what they found, and how many are kept, in the mean of all processes. What
 /// lies between is looked ahead.
@@ -143,7 +143,13 @@ impl Proposer<'_> {
             .saturating_mul(WINDOW_FUEL)
             .min(*fuel);
         let mut left = most;
-        let guess = find_sources(self.alloc, given, skew_number..SKEWS, SKEW_PART, &mut left);
+        let guess = find_sources(
+            self.alloc,
+            given,
+            skew_number..SKEWS,
+            WINDOW_SKEW_DIVISOR,
+            &mut left,
+        );
         *fuel = fuel.saturating_sub(most.saturating_sub(left));
         guess
     }
