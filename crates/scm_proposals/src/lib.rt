@@ -2,7 +2,6 @@
 //! believed, and no contract here says more than that a call is safe and ends; `scm_schedules::is_legal` is the judge.
 #![tactic(auto)]
 
-mod accesses;
 mod beginning;
 mod choosing;
 mod ending;
@@ -17,6 +16,7 @@ mod rank;
 mod remaining;
 mod saturation;
 mod sources;
+mod turn_ops;
 mod turns;
 mod windows;
 

@@ -1,7 +1,7 @@
 //! A schedule of long turns: one process makes many operations, then another one does.
-use crate::accesses::{Access, accesses_of};
 use crate::beginning::{Beginning, copy, next_of};
 use crate::proposal::Proposer;
+use crate::turn_ops::{TurnOp, turn_ops_of};
 use scm_sequences::{Lengths, Op, Sequences};
 use std::alloc::Global;
 
@@ -38,7 +38,7 @@ struct TurnSearch<'a> {
     alloc: Global,
     sequences: &'a Sequences,
     lengths: &'a Lengths,
-    accesses: Vec<Vec<Access>>,
+    turn_ops: Vec<Vec<TurnOp>>,
     procs: u32,
     ops: u32,
     steps: u64,
@@ -56,7 +56,7 @@ impl Proposer<'_> {
             alloc: self.alloc,
             sequences: self.sequences,
             lengths: self.lengths,
-            accesses: self.accesses()?,
+            turn_ops: self.turn_ops()?,
             procs: u32::try_from(self.counts.len()).ok()?,
             ops: u32::try_from(nothing.made.left(self.lengths)).ok()?,
             steps: fuel.saturating_mul(TURN_STEPS_OF_FUEL),
@@ -66,15 +66,15 @@ impl Proposer<'_> {
         schedule
     }
 
-    fn accesses(&self) -> Option<Vec<Vec<Access>>> {
-        let mut accesses = Vec::new(self.alloc);
+    fn turn_ops(&self) -> Option<Vec<Vec<TurnOp>>> {
+        let mut turn_ops = Vec::new(self.alloc);
         for (p, count) in self.counts.iter().enumerate() {
             let ops = self.sequences.operations(p).get(..*count as usize)?;
-            accesses
-                .push(accesses_of(self.alloc, ops, self.initials.len())?)
+            turn_ops
+                .push(turn_ops_of(self.alloc, ops, self.initials.len())?)
                 .ok()?;
         }
-        Some(accesses)
+        Some(turn_ops)
     }
 }
 
@@ -153,7 +153,7 @@ impl TurnSearch<'_> {
     // How many operations a process can make one after the other.
     fn run(&mut self, made: &Beginning, process: u32) -> Option<u32> {
         let from = *made.counts.get(process as usize)?;
-        let left = self.accesses.get(process as usize)?.get(from as usize..)?;
+        let left = self.turn_ops.get(process as usize)?.get(from as usize..)?;
         let mut len: u32 = 0;
         for access in left {
             let fits = if access.earlier > from {

@@ -26,7 +26,7 @@ const CHECKED: u32 = 10;
 
 const KEPT: u32 = 7;
 
-const WHOLE: u32 = 16;
+const SIXTEENTHS: u32 = 16;
 
 /// The fuel for each operation of a window, at most.
 const WINDOW_FUEL: u64 = 2_000;
@@ -58,7 +58,7 @@ impl WindowProgress {
 
     // How many places of the schedule of a window are kept.
     fn kept(&self) -> usize {
-        let places = self.width.saturating_mul(KEPT) / WHOLE;
+        let places = self.width.saturating_mul(KEPT) / SIXTEENTHS;
         (places as usize).saturating_mul(self.beginning.counts.len())
     }
 
@@ -117,7 +117,7 @@ impl Proposer<'_> {
         let checked = if is_last {
             u32::MAX
         } else {
-            progress.width.saturating_mul(CHECKED) / WHOLE
+            progress.width.saturating_mul(CHECKED) / SIXTEENTHS
         };
         let part = self.part(&progress.beginning, ends.as_slice(), checked);
         let Some(guess) = self.guess(&part, progress.skew_number, fuel) else {

@@ -47,16 +47,16 @@ pub(crate) struct CameBack<B: BookNaming> {
     of: PhantomData<B>,
 }
 
-/// Where those wait who want a set of the book that is lent. It stands beside the lock.
+/// The bell at which those wait who want a set of the book that is lent. It stands beside the lock.
 #[derive(Drop)]
-pub(crate) struct Returns<B: BookNaming> {
+pub(crate) struct SetBell<B: BookNaming> {
     bell: Bell,
     of: PhantomData<B>,
 }
 
-impl<B: BookNaming> Returns<B> {
-    pub(crate) fn new() -> Returns<B> {
-        Returns {
+impl<B: BookNaming> SetBell<B> {
+    pub(crate) fn new() -> SetBell<B> {
+        SetBell {
             bell: Bell::new(),
             of: PhantomData,
         }
