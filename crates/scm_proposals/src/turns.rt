@@ -155,11 +155,11 @@ impl TurnSearch<'_> {
         let from = *made.counts.get(process as usize)?;
         let left = self.turn_ops.get(process as usize)?.get(from as usize..)?;
         let mut len: u32 = 0;
-        for access in left {
-            let fits = if access.earlier > from {
-                access.follows
+        for turn_op in left {
+            let fits = if turn_op.earlier > from {
+                turn_op.follows
             } else {
-                access.op.finds(*made.contents.get(access.op.cell())?)
+                turn_op.op.finds(*made.contents.get(turn_op.op.cell())?)
             };
             if !fits {
                 break;

@@ -60,15 +60,14 @@ impl Lengths {
         self.counts.len()
     }
 
-    /// Whether these are counts of as many processes as `others`, none greater than there.
-    pub fn within(&self, others: &Lengths) -> bool
-        ensures { IsTrue result ↔ IsWithin self.now others.now }
+    /// Whether there are as many counts as processes, none greater than here.
+    pub fn bound(&self, counts: &[u32]) -> bool
+        ensures { IsTrue result ↔ IsWithin counts.now self.now }
     {
-        self.counts.len() == others.counts.len()
-            && self
-                .counts
+        counts.len() == self.counts.len()
+            && counts
                 .iter()
-                .zip(others.counts.iter())
+                .zip(self.counts.iter())
                 .all(|(count, most)| count <= most)
     }
 }

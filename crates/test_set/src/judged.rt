@@ -56,7 +56,7 @@ pub(crate) fn is_legal_schedule(
     places: &[u8],
 ) -> bool {
     assert!(rt; initials.len() <= MOST_CELLS);
-    assert!(rt; lengths.within(&sequences.lengths()));
+    assert!(rt; sequences.lengths().bound(lengths.counts()));
     assert!(rt; sequences.names_cells_below(initials.len()));
     is_legal(initials, sequences, lengths, places)
 }
@@ -71,7 +71,7 @@ pub(crate) fn is_refuted(
     situations: &[Situation],
 ) -> bool {
     assert!(rt; initials.len() <= MOST_CELLS);
-    assert!(rt; lengths.within(&sequences.lengths()));
+    assert!(rt; sequences.lengths().bound(lengths.counts()));
     assert!(rt; sequences.names_cells_below(initials.len()));
     refutes(alloc, initials, sequences, lengths, situations).expect(rt, "memory")
 }
@@ -86,7 +86,7 @@ fn fixed_by(
     schedule: &[u8],
 ) -> Option<Vec<(u8, u64)>> {
     assert!(rt; initials.len() <= MOST_CELLS);
-    let is_within = lengths.within(&sequences.lengths());
+    let is_within = sequences.lengths().bound(lengths.counts());
     assert!(rt; is_within);
     let is_below = sequences.names_cells_below(initials.len());
     assert!(rt; is_below);

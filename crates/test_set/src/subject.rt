@@ -124,7 +124,7 @@ impl Subject {
         lengths: &Lengths,
         limit: usize,
     ) -> (Settled, u64) {
-        let is_within = lengths.within(&self.sequences.lengths());
+        let is_within = self.sequences.lengths().bound(lengths.counts());
         assert!(rt; is_within);
         let has_room = self.reach.held() <= limit && limit <= LIMIT;
         assert!(rt; has_room);
@@ -154,7 +154,7 @@ impl Subject {
 
     /// Goes back to these lengths.
     pub(crate) fn go_back(&mut self, rt: &impl Abort, lengths: &Lengths) {
-        let is_within = lengths.within(&self.sequences.lengths());
+        let is_within = self.sequences.lengths().bound(lengths.counts());
         assert!(rt; is_within);
         self.reach.cut(&self.sequences, lengths);
         self.sequences.cut(lengths);
