@@ -175,8 +175,8 @@ impl Book {
         self.traces.lend_work()
     }
 
-    /// Whether a trace may want work: it may have many situations, and grew since it was looked at for work, or something was
-    /// left. Nothing rests on it.
+    /// Whether a trace may want work: it may have many situations, and grew since it was looked at for work, or nothing changed
+    /// and something was left. Nothing rests on it.
     pub fn may_want_work(&self) -> bool {
         self.traces.may_want_work()
     }

@@ -74,8 +74,8 @@ impl Proposing<'_> {
         reach.holds_whole(self.sequences, self.lengths) || !reach.is_open(self.sequences)
     }
 
-    /// Whether the set has the answer, or a search in it is likely to be short. `None` where memory is refused or the set is
-    /// full. Nothing rests on it. What goes over the set comes last.
+    /// Whether the set has the answer, or a search in it is likely to be short. `None` where memory is refused. Nothing rests
+    /// on it. What goes over the set comes last.
     fn is_near(&self, reach: &Reach) -> Option<bool>
         requires { IsWithin self.now.lengths.now (lengths_of self.now.sequences.now) }
     {
@@ -145,8 +145,9 @@ impl Proposing<'_> {
         }
     }
 
-    /// A legal schedule of the trace, where one was proposed. `None` also where the set has the answer already or is near to
-    /// it, where no proposal was legal, where none was legal before and nothing changed, and where memory is refused.
+    /// A legal schedule of the trace: one that is known, or one that is proposed. Where none is known, `None` also where the set
+    /// has the answer already or is near to it, where no proposal was legal before and nothing changed, and where memory is
+    /// refused.
     pub(crate) fn legal(&self, reach: &Reach) -> Option<Vec<u8>>
         requires { CanJudge self.now.sequences.now self.now.lengths.now reach.now.initials }
         ensures { IfSome result (λ schedule. IsSchedule (cut_to (trace_of reach.now.initials self.now.sequences.now) self.now.lengths.now) (reverse schedule.items)) }

@@ -13,7 +13,7 @@ use std::alloc::Global;
 pub(crate) enum Asked {
     /// No reply.
     Nothing,
-    /// A bad line, under the name of its session where its first word is a name.
+    /// A bad line, under the name of its session where its first word is a name and it isn't too long.
     Bad(Option<Name>),
     /// A call of the session of this name.
     Good { session: Name, call: Call },
