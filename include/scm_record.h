@@ -15,7 +15,8 @@
  * in C++ by scm::atomic<T> in place of std::atomic<T>, in both by scm_plain_load and scm_plain_store, and by
  * scm_record_load, _store and _read_write for what has its own instructions. Fences are no accesses. An access that you
  * leave as it is isn't recorded: where it is a load no verdict becomes wrong, but a missing store makes the trace one about
- * nothing. So does a cell that is stored to by bytes, by another process or by the system.
+ * nothing. So does a cell that is stored to by bytes, by another process or by the system, an access from a signal handler, and
+ * one in a library that is opened while the program runs, unless the program is linked with -rdynamic.
  *
  * How. A thread has a buffer of its own from its first access on; an access takes a time stamp from the processor's counter
  * and a store into that buffer, no lock, no system call and no allocation. The lines of the script stand in about the order of
@@ -24,8 +25,8 @@
  * stand one after another. The order makes no verdict wrong; a good one has long traces decided. Recording takes time, and so
  * changes how threads meet: examples/recording measures how much.
  *
- * What doesn't fit is told. At most 32 threads and 64 cells; where a thread too many came, a buffer was too short or an
- * address isn't a cell, nothing is written and the status says why. */
+ * What doesn't fit is told. At most 32 threads, 64 cells, and as many accesses as a monitor takes calls; where a thread too many
+ * came, a buffer was too short or an address isn't a cell, nothing is written and the status says why. */
 #ifndef SCM_RECORD_H
 #define SCM_RECORD_H
 
@@ -50,6 +51,8 @@ enum {
   SCM_RECORD_MOST_THREADS = 32,
   SCM_RECORD_MOST_CELLS = 64,
   SCM_RECORD_MOST_ACCESSES = 1000000, /* of a thread */
+  SCM_RECORD_MOST_BUDGET = 1000000,
+  SCM_RECORD_MOST_CALLS = 1 << 20, /* of a script: with those that open, claim, ask and close */
   SCM_RECORD_LONGEST_NAME = 32,
   SCM_RECORD_LONGEST_LINE = 4096,
   SCM_RECORD_PLACES = 256, /* of the table of cells by address */
@@ -73,6 +76,8 @@ enum {
   SCM_RECORD_BAD_ADDRESS,
   SCM_RECORD_NOTHING,
   SCM_RECORD_WRITE_FAILED,
+  SCM_RECORD_TOO_MANY_ACCESSES,
+  SCM_RECORD_BAD_BUDGET,
 };
 
 static inline const char *scm_record_message(int status) {
@@ -87,6 +92,8 @@ static inline const char *scm_record_message(int status) {
       "an access isn't an aligned one of 4 or 8 bytes, or overlaps another cell",
       "nothing was recorded",
       "writing failed, or the monitor refused a line",
+      "more accesses than a monitor takes: 1048576 calls, with those that open, claim, ask and close",
+      "a budget is 1 to 1000000",
   };
   return status >= 0 && status < (int)(sizeof messages / sizeof *messages) ? messages[status] : "no such status";
 }
@@ -133,8 +140,8 @@ struct scm_record_own {
 #ifdef __cplusplus
 extern "C" {
 #endif
-__attribute__((weak)) struct scm_record_state scm_record_state;
-__attribute__((weak)) __thread struct scm_record_own scm_record_own;
+__attribute__((weak, visibility("default"))) struct scm_record_state scm_record_state;
+__attribute__((weak, visibility("default"))) __thread struct scm_record_own scm_record_own;
 #ifdef __cplusplus
 }
 #endif
@@ -174,6 +181,9 @@ static inline void scm_record_join(void) {
     own->buffer = &scm_record_state.buffers[number];
 }
 
+/* The number within so many bytes. */
+static inline uint64_t scm_record_cut(uint64_t value, size_t bytes) { return bytes == 4 ? (uint32_t)value : value; }
+
 /* Records an access that was just made. */
 static inline void scm_record_access(unsigned kind, const volatile void *at, size_t bytes, uint64_t first, uint64_t second) {
   uint64_t time = scm_record_time();
@@ -188,10 +198,10 @@ static inline void scm_record_access(unsigned kind, const volatile void *at, siz
   struct scm_record_access *access = &buffer->accesses[place];
   access->time = time;
   access->at = at;
-  access->first = first;
-  access->second = second;
+  access->first = scm_record_cut(first, bytes);
+  access->second = scm_record_cut(second, bytes);
   access->kind = (uint8_t)kind;
-  access->bytes = (uint8_t)bytes;
+  access->bytes = (uint8_t)(bytes <= UINT8_MAX ? bytes : UINT8_MAX);
 }
 
 static inline void scm_record_load(const volatile void *at, size_t bytes, uint64_t value) {
@@ -219,9 +229,6 @@ static inline uint64_t scm_record_bits(const void *value, size_t bytes) {
   return double_word;
 }
 
-/* The number within so many bytes. */
-static inline uint64_t scm_record_cut(uint64_t value, size_t bytes) { return bytes == 4 ? (uint32_t)value : value; }
-
 /* ---- Before and after: one thread calls these, while no other one makes accesses */
 
 static inline bool scm_record_is_name(const char *name) {
@@ -242,7 +249,7 @@ static inline int scm_record_name(const volatile void *at, size_t bytes, const c
   struct scm_record_cell *cell = &state->cells[state->named++];
   cell->at = at;
   cell->bytes = (uint8_t)bytes;
-  cell->is_known = true;
+  cell->is_known = false; /* until a recording begins */
   strcpy(cell->name, name);
   return SCM_RECORD_DONE;
 }
@@ -290,17 +297,18 @@ static inline int scm_record_make_room(unsigned threads, size_t accesses) {
 static inline int scm_record_begin(unsigned threads, size_t accesses) {
   struct scm_record_state *state = &scm_record_state;
   scm_record_end();
+  state->threads = state->joined = 0;
   if (threads < 1 || threads > SCM_RECORD_MOST_THREADS || accesses < 1 || accesses > SCM_RECORD_MOST_ACCESSES)
     return SCM_RECORD_BAD_ROOM;
   int status = scm_record_make_room(threads, accesses);
   state->threads = status == SCM_RECORD_DONE ? threads : 0;
   state->room = status == SCM_RECORD_DONE ? accesses : 0;
-  state->joined = 0;
   if (status != SCM_RECORD_DONE)
     return status;
   for (uint32_t number = 0; number < state->named; number++) {
     struct scm_record_cell *cell = &state->cells[number];
     cell->first = scm_record_bits((const void *)cell->at, cell->bytes);
+    cell->is_known = true;
   }
   state->last = state->last == UINT32_MAX ? 1 : state->last + 1;
   __atomic_store_n(&state->recording, state->last, __ATOMIC_RELEASE);
@@ -309,10 +317,11 @@ static inline int scm_record_begin(unsigned threads, size_t accesses) {
 
 /* ---- The script */
 
-/* The cells of a recording, and where in them an address stands, from 1 on. */
+/* The cells of a recording, how many accesses are of them, and where in them an address stands, from 1 on. */
 struct scm_record_cells {
   struct scm_record_cell cells[SCM_RECORD_MOST_CELLS];
   unsigned count;
+  size_t accesses;
   uint8_t places[SCM_RECORD_PLACES];
 };
 
@@ -323,6 +332,16 @@ static inline uint8_t *scm_record_place(struct scm_record_cells *cells, const vo
   return &cells->places[place];
 }
 
+/* The cell that has a byte among these, or NULL. */
+static inline const struct scm_record_cell *scm_record_overlapped(const struct scm_record_cells *cells, const volatile void *at, size_t bytes) {
+  for (unsigned number = 0; number < cells->count; number++) {
+    const struct scm_record_cell *cell = &cells->cells[number];
+    if ((uintptr_t)at < (uintptr_t)cell->at + cell->bytes && (uintptr_t)cell->at < (uintptr_t)at + bytes)
+      return cell;
+  }
+  return NULL;
+}
+
 static inline int scm_record_add_cell(struct scm_record_cells *cells, const struct scm_record_cell *cell) {
   uint8_t *place = scm_record_place(cells, cell->at);
   if (*place != 0)
@@ -331,13 +350,11 @@ static inline int scm_record_add_cell(struct scm_record_cells *cells, const stru
     return SCM_RECORD_BAD_ADDRESS;
   if (cells->count == SCM_RECORD_MOST_CELLS)
     return SCM_RECORD_TOO_MANY_CELLS;
-  for (unsigned number = 0; number < cells->count; number++) {
-    const struct scm_record_cell *other = &cells->cells[number];
-    if ((uintptr_t)cell->at < (uintptr_t)other->at + other->bytes && (uintptr_t)other->at < (uintptr_t)cell->at + cell->bytes)
-      return SCM_RECORD_BAD_ADDRESS;
-    if (strcmp(cell->name, other->name) == 0)
+  if (scm_record_overlapped(cells, cell->at, cell->bytes) != NULL)
+    return SCM_RECORD_BAD_ADDRESS;
+  for (unsigned number = 0; number < cells->count; number++)
+    if (strcmp(cell->name, cells->cells[number].name) == 0)
       return SCM_RECORD_BAD_NAME;
-  }
   cells->cells[cells->count++] = *cell;
   *place = (uint8_t)cells->count;
   return SCM_RECORD_DONE;
@@ -361,12 +378,13 @@ static inline int scm_record_cells_of(const struct scm_record_buffer *buffer, st
   for (size_t place = 0; place < buffer->count; place++) {
     const struct scm_record_access *access = &buffer->accesses[place];
     struct scm_record_cell cell = {access->at, 0, access->bytes, false, ""};
-    if (scm_record_state.only_named && *scm_record_place(cells, access->at) == 0)
+    if (scm_record_state.only_named && scm_record_overlapped(cells, access->at, access->bytes) == NULL)
       continue;
     snprintf(cell.name, sizeof cell.name, "m%llx", (unsigned long long)(uintptr_t)access->at);
     int status = scm_record_add_cell(cells, &cell);
     if (status != SCM_RECORD_DONE)
       return status;
+    cells->accesses++;
   }
   return SCM_RECORD_DONE;
 }
@@ -383,6 +401,8 @@ static inline int scm_record_all_cells(struct scm_record_cells *cells) {
     status = scm_record_cells_of(&state->buffers[number], cells);
   if (status == SCM_RECORD_DONE && scm_record_count() == 0)
     return SCM_RECORD_NOTHING;
+  if (status == SCM_RECORD_DONE && cells->accesses + scm_record_threads() + 3 > SCM_RECORD_MOST_CALLS)
+    return SCM_RECORD_TOO_MANY_ACCESSES;
   return status;
 }
 
@@ -534,6 +554,8 @@ static inline int scm_record_hand_over(scm_record_taker *take, void *taker, cons
   script.budget = budget;
   if (!scm_record_is_name(session) || !scm_record_is_name(trace))
     return SCM_RECORD_BAD_NAME;
+  if (budget < 1 || budget > SCM_RECORD_MOST_BUDGET)
+    return SCM_RECORD_BAD_BUDGET;
   int status = scm_record_all_cells(&script.cells);
   if (status != SCM_RECORD_DONE)
     return status;
@@ -550,7 +572,7 @@ static inline bool scm_record_write_line(void *out, const char *line, size_t len
 /* Writes the script: the trace of this name is opened with this budget, reported, asked about and closed. */
 static inline int scm_record_write(FILE *out, const char *session, const char *trace, uint64_t budget) {
   int status = scm_record_hand_over(scm_record_write_line, out, session, trace, budget);
-  if (status == SCM_RECORD_DONE && fprintf(out, "%s ask %s\n%s close %s\n", session, trace, session, trace) < 0)
+  if (status == SCM_RECORD_DONE && (fprintf(out, "%s ask %s\n%s close %s\n", session, trace, session, trace) < 0 || fflush(out) != 0))
     return SCM_RECORD_WRITE_FAILED;
   return status;
 }
@@ -602,6 +624,13 @@ template <typename T> class atomic {
   std::atomic<T> value_;
 
   static uint64_t bits(const T &value) { return scm_record_bits(&value, sizeof value); }
+
+  static T of_bits(uint64_t number) {
+    uint32_t word = (uint32_t)number;
+    T value;
+    memcpy(&value, sizeof value == sizeof word ? (const void *)&word : &number, sizeof value);
+    return value;
+  }
 
   T changed(T old_value, uint64_t new_value) {
     scm_record_read_write(this, sizeof(T), bits(old_value), scm_record_cut(new_value, sizeof(T)));
@@ -676,12 +705,12 @@ public:
     store(value);
     return value;
   }
-  T operator++() { return fetch_add(1) + 1; }
+  T operator++() { return *this += 1; }
   T operator++(int) { return fetch_add(1); }
-  T operator--() { return fetch_sub(1) - 1; }
+  T operator--() { return *this -= 1; }
   T operator--(int) { return fetch_sub(1); }
-  T operator+=(T by) { return fetch_add(by) + by; }
-  T operator-=(T by) { return fetch_sub(by) - by; }
+  T operator+=(T by) { return of_bits(bits(fetch_add(by)) + bits(by)); }
+  T operator-=(T by) { return of_bits(bits(fetch_sub(by)) - bits(by)); }
 };
 
 } // namespace scm

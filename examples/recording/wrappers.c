@@ -78,12 +78,31 @@ static void write_wrappers(void) {
   scm_record_free();
 }
 
-static int written(void) {
-  FILE *nowhere = fopen("/dev/null", "w");
+static int written_to(const char *path, uint64_t budget) {
+  FILE *out = fopen(path, "w");
   scm_record_end();
-  int status = scm_record_write(nowhere, "a", "t", 1000);
-  fclose(nowhere);
+  int status = scm_record_write(out, "a", "t", budget);
+  fclose(out);
   return status;
+}
+
+static int written(void) { return written_to("/dev/null", 1000); }
+
+static void expect_first_lines(const char *wanted, const char *what) {
+  char found[200];
+  FILE *out = tmpfile();
+  scm_record_end();
+  expect(scm_record_write(out, "a", "t", 1000), SCM_RECORD_DONE, what);
+  rewind(out);
+  found[fread(found, 1, sizeof found - 1, out)] = '\0';
+  fclose(out);
+  expect(strncmp(found, wanted, strlen(wanted)), 0, what);
+}
+
+static void *load_often(void *argument) {
+  for (unsigned i = 0; i < 600000; i++)
+    scm_plain_load(&data);
+  return argument;
 }
 
 static void *load_data(void *argument) {
@@ -128,8 +147,38 @@ static void each_fault(void) {
   scm_record_free();
 }
 
+static void each_fault_of_values(void) {
+  pthread_t other;
+  scm_record_begin(1, 100);
+  scm_plain_load(&data);
+  expect(scm_record_begin(33, 10), SCM_RECORD_BAD_ROOM, "33 threads after a recording");
+  expect(written(), SCM_RECORD_NOTHING, "nothing of the recording before");
+  data = 7;
+  scm_record_begin(1, 100);
+  scm_record_name(&data, sizeof data, "data");
+  scm_record_store(&data, sizeof data, (UINT64_C(1) << 32) + 7);
+  expect_first_lines("a open t 1 1000 data:w=?\na claim t 0\na do t 0 sw data 7\n", "a name that came late, and a value of 33 bits");
+  expect(written_to("/dev/null", 0), SCM_RECORD_BAD_BUDGET, "a budget of 0");
+  expect(written_to("/dev/full", 1000), SCM_RECORD_WRITE_FAILED, "a full device");
+  scm_record_begin(1, 100);
+  scm_record_load(&data, 260, 0);
+  expect(written(), SCM_RECORD_BAD_ADDRESS, "an access of 260 bytes");
+  scm_record_only_named();
+  scm_record_name((char *)&wide + 4, 4, "half");
+  scm_record_begin(1, 100);
+  scm_record_store(&wide, sizeof wide, 1);
+  expect(written(), SCM_RECORD_BAD_ADDRESS, "an access that overlaps a named cell");
+  scm_record_begin(2, 600000);
+  load_often(NULL);
+  pthread_create(&other, NULL, load_often, NULL);
+  pthread_join(other, NULL);
+  expect(written(), SCM_RECORD_TOO_MANY_ACCESSES, "1,200,000 accesses");
+  scm_record_free();
+}
+
 int main(void) {
   write_wrappers();
   each_fault();
+  each_fault_of_values();
   return faults != 0;
 }
