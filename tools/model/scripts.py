@@ -1,7 +1,7 @@
 """Scripts at random: calls of a few sessions on a few traces, some of them turned into hostile lines."""
 import random
 
-NAMES = ["x", "y", "z", "longest-name_of_32_bytes-01234567"]
+NAMES = ["x", "y", "z", "longest-name_of_32_bytes-0123456"]
 AMOS = ["swap", "add", "and", "or", "xor", "max", "min", "maxu", "minu"]
 EDGES = ["-1", "-2147483648", "-2147483649", "0xffffffff", "4294967296", "18446744073709551615", "18446744073709551616", "007", "-0", "0x", "+1", "?"]
 
