@@ -115,6 +115,9 @@ def main():
         raise Stop(f"{fault.filename}: {fault.strerror}") from None
     if not logs:
         raise Stop(f"{options.logs}: no file is in it")
+    names = Counter(os.path.splitext(os.path.basename(log))[0] for log in logs)
+    if len(names) < len(logs):
+        raise Stop(f"{options.logs}: several logs would become {names.most_common(1)[0][0]}.scm")
     Monitor(options.program).replies(["a list"])  # it is built before several want it
     rows, counts = rows_of(options, logs)
     rows.sort(key=lambda row: (ORDER.index(row.verdict), row.operations, row.name))

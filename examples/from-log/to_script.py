@@ -6,7 +6,7 @@ import sys
 MOST_CELLS = 64  # of a trace
 
 # An access has an address, what was stored or given ('data='), and what came back ('->').
-ACCESS = re.compile(r"hart (\d+): (\S+) .*addr=([0-9a-f]+)(?: data=([0-9a-f]+))?(?: -> ([0-9a-f]+))?")
+ACCESS = re.compile(r"hart (\d+): (\S+) .*addr=(\w+)(?: data=(\w+))?(?: -> (\w+))?")
 
 SIZES = {"w": 4, "d": 8}  # in bytes
 
@@ -25,10 +25,10 @@ def declare(address, width, line):
     at = int(address, 16)
     if at % SIZES[width] != 0:
         sys.exit(f"to_script: not aligned: {line}")
-    cell = f"m{address}"
+    cell = f"m{at:x}"
     if cells.setdefault(cell, width) != width:
         sys.exit(f"to_script: {cell} is accessed in both widths: {line}")
-    other = f"m{at - at % 8 if width == 'w' else at + 4:0{len(address)}x}"
+    other = f"m{at - at % 8 if width == 'w' else at + 4:x}"
     if other != cell and (width, cells.get(other)) in (("w", "d"), ("d", "w")):
         sys.exit(f"to_script: {cell} overlaps {other}: {line}")
     return cell
@@ -39,6 +39,8 @@ for line in sys.stdin:
     if not found:
         continue  # other instructions, fences among them
     hart, name, address, data, back = found.groups()
+    if not all(re.fullmatch("[0-9a-f]+", number) for number in (address, data, back) if number):
+        sys.exit(f"to_script: not in hexadecimal digits alone: {line}")
     data, back = data and "0x" + data, back and "0x" + back
     width = "d" if name in ("ld", "sd") or ".d" in name else "w"
     if not re.fullmatch(r"[ls][wd]|(lr|sc|amo[a-z]+)\.[wd](\.aq|\.rl|\.aqrl)?", name):
@@ -51,6 +53,8 @@ for line in sys.stdin:
         add(hart, f"l{width} {cell} {back}")
     elif name.startswith("sc."):
         pair = reserved.pop(hart, None)
+        if back is None:
+            sys.exit(f"to_script: an sc without its result: {line}")
         if int(back, 16) != 0:
             continue  # nothing was stored, and the lr was a load
         if not pair or pair[:2] != (width, cell):
@@ -72,6 +76,8 @@ if len(cells) > MOST_CELLS:
     accesses = [(hart, words) for hart, words in accesses if words.split()[1] in cells]
 if len(cells) > MOST_CELLS:
     sys.exit(f"to_script: {len(cells)} cells are accessed by several harts: choose {MOST_CELLS} of them")
+if not accesses:
+    sys.exit(f"to_script: more than {MOST_CELLS} cells are accessed, each by one hart alone")
 harts = max(hart for hart, _ in accesses) + 1
 print(f"log open sim {harts} 1000000", *(f"{cell}:{width}=0" for cell, width in sorted(cells.items())))
 for hart in range(harts):
