@@ -76,13 +76,19 @@ function lastCall(lines, replies, before, trace, verb, reply) {
   throw new Error(`no line makes the call ${verb} ${trace}`);
 }
 
+// A number, or `?`, as a cell of this width has it.
+function stored(text, width) {
+  if (text === "?") return text;
+  const size = BigInt(text.replace("-", ""));
+  return String(BigInt.asUintN(width === "d" ? 64 : 32, text.startsWith("-") ? -size : size));
+}
+
 function operationsOf(reply) {
-  const [, , , ...found] = words(reply);
+  const found = words(reply);
   const operations = [];
-  while (found.length > 0) {
-    const [kind, cell] = found.splice(0, 2);
-    const [old, fresh] = { R: (one) => [one], W: (one) => [, one], RW: (one, two) => [one, two] }[kind](...found.splice(0, kind === "RW" ? 2 : 1));
-    operations.push({ kind, cell, old, fresh });
+  for (let at = 3; at < found.length; at += operations.at(-1).kind === "RW" ? 4 : 3) {
+    const [kind, cell, one, two] = found.slice(at, at + 4);
+    operations.push({ kind, cell, old: kind === "W" ? undefined : one, fresh: { W: one, RW: two }[kind] });
   }
   return operations;
 }
@@ -98,7 +104,10 @@ function pictureOf(module, lines, replies, at) {
   const now = new Monitor(module);
   now.run(lines.slice(0, at));
   const ask = (verb) => said(now.reply([session, verb, trace, mark].filter((it) => it !== undefined).join(" ")));
-  const cells = declared.map((it) => ({ name: it.split(":")[0], first: it.split("=")[1] }));
+  const cells = declared.map((it) => {
+    const [name, width, first] = it.split(/[:=]/);
+    return { name, first: stored(first, width) };
+  });
   return { trace, line: at + 1, text: lines[at].trim(), cells, lanes: shown, ...verdictOf(ask) };
 }
 

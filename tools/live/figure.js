@@ -36,7 +36,7 @@ function placed(picture) {
   const boxes = new Map();
   picture.lanes.forEach((operations, lane) => operations.forEach((operation, index) => boxes.set(`${lane}.${index}`, { operation, lane, index, row: index })));
   if (picture.schedule) stepsOf(picture.schedule).forEach((at, row) => (boxes.get(at).row = row));
-  if (picture.orders) rowsByOrders(boxes, picture.orders);
+  if (picture.orders && boxes.size <= MOST_DRAWN) rowsByOrders(boxes, picture.orders);
   return boxes;
 }
 
@@ -275,8 +275,9 @@ function stepsData(picture, boxes) {
 
 function explained(picture, boxes, colours) {
   if (picture.orders) {
+    const cases = picture.orders.some(({ rule }) => rule === "assumed") ? " (within a case: in each where what it supposes is so)" : "";
     const orders = picture.orders.map(({ start, end, by, rests }) => ({ ops: [start, end, ...(by ? [by] : [])], rests }));
-    return { data: { orders }, words: "No interleaving explains it: each order of the list holds in every legal schedule, with those of the processes, and the last one can't.", panel: element("ol", { class: "orders", start: 0 }, ...picture.orders.map(orderLine)) };
+    return { data: { orders }, words: `No interleaving explains it: each order of the list holds in every legal schedule${cases}, with those of the processes, and the last one can't.`, panel: element("ol", { class: "orders", start: 0 }, ...picture.orders.map(orderLine)) };
   }
   if (picture.stuck) {
     const list = element("ol", { class: "orders" }, ...picture.stuck.map((it, at) => stuckLine(it, at, picture)));
