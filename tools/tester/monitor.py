@@ -6,7 +6,7 @@ import threading
 
 TOP = os.path.realpath(os.path.join(os.path.dirname(__file__), "../.."))
 MOST_CALLS = 1_048_576  # of a run
-BAD_INPUT, NOT_BUILT, INTERRUPTED = 2, 70, 130
+BAD_INPUT, NOT_BUILT, NOT_WRITTEN, INTERRUPTED = 2, 70, 74, 130
 
 
 class Stop(Exception):
@@ -27,6 +27,10 @@ def run_tool(name, main):
         sys.exit(stop.status)
     except BrokenPipeError:  # whoever read the output has enough
         os.dup2(os.open(os.devnull, os.O_WRONLY), sys.stdout.fileno())
+    except OSError as fault:
+        os.dup2(os.open(os.devnull, os.O_WRONLY), sys.stdout.fileno())
+        print(f"{name}: the output can't be written: {fault.strerror}", file=sys.stderr)
+        sys.exit(NOT_WRITTEN)
     except KeyboardInterrupt:
         sys.exit(INTERRUPTED)
 

@@ -40,6 +40,11 @@ def orders_of(recording, reply):
     return [reasons.order(number, word) for number, word in enumerate(words[2:])]
 
 
+def within_cases(orders):
+    """What is to be said beside 'in every legal schedule' where the orders go by cases."""
+    return " (within a case: in each where what it supposes is so)" if any(order.rule == "assumed" for order in orders) else ""
+
+
 def place(at):
     return f"{at[0]}.{at[1]}"
 

@@ -41,7 +41,19 @@ class Run:
 
     @property
     def operations(self):
-        return sum(line.words[1] == "do" and line.reply == "ok" for line in self.lines)
+        """How many it has at the end of its lines."""
+        count, marks = 0, []
+        for line in self.lines:
+            verb = line.words[1]
+            if verb == "do":
+                count += line.reply == "ok"
+            elif verb == "mark" and not line.is_refused:
+                marks.append(count)
+            elif verb == "back" and not line.is_refused:
+                mark = int(line.words[3])
+                count = marks[mark]
+                del marks[mark + 1:]
+        return count
 
     @cached_property
     def verdict(self):

@@ -38,7 +38,10 @@ def counts_by_law(larger, smaller):
     """What went from the larger trace to the smaller one, counted by the law that lets it go. Stops where none does."""
     before, after = at_lines(larger), at_lines(smaller)
     left = {name for _, name, _, _ in after.values()}
-    reads = {(name, old) for kind, name, old, _ in after.values() if kind != "W"}
+    readers = {}
+    for line, (kind, name, old, _) in after.items():
+        if kind != "W":
+            readers.setdefault((name, old), set()).add(line)
     counts = dict.fromkeys(LAWS, 0)
     counts["cells"] = len({name for _, name, _, _ in before.values()} - left)
     for line, (kind, name, old, new) in before.items():
@@ -47,7 +50,7 @@ def counts_by_law(larger, smaller):
             continue
         if now not in (None, ("W", name, None, new), ("R", name, old, None)) or kind != "RW" and now:
             raise Stop(f"the operation of line {line} was changed: an error of shrink", 70)
-        if kind != "R" and (now is None or now[0] == "R") and (name, new) in reads:
+        if kind != "R" and (now is None or now[0] == "R") and readers.get((name, new), set()) - {line}:
             raise Stop(f"the write of line {line} went, whose value is read: an error of shrink", 70)
         if now or name in left:
             counts[WEAKER[now[0]] if now else GONE[kind]] += 1

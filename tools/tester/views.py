@@ -7,7 +7,7 @@ import re
 from tester.drawing import Colours, Drawing, element, first_contents, label
 from tester.layout import lanes_of, lanes_with, place_by_orders, place_by_schedule, whole_lanes
 from tester.progress import Progress
-from tester.reasons import orders_of, place
+from tester.reasons import orders_of, place, within_cases
 
 SMALL = 60  # operations that are drawn at once
 AROUND = 1  # operations beside one that a list names
@@ -32,7 +32,8 @@ class View:
 
 def view_of(recording, monitor):
     """What the monitor answers about the trace, as it is drawn."""
-    answer = recording.ask(monitor, "ask")[0]
+    said = recording.question.reply if recording.question else ""  # found with earlier questions, it may not be found without them
+    answer = said if said.startswith("consistent") else recording.ask(monitor, "ask")[0]
     if answer.startswith("consistent"):
         return consistent(recording, answer)
     cycle, = recording.ask(monitor, "cycle")
@@ -73,7 +74,7 @@ def refuted(recording, orders, answer):
     colours = Colours(recording, sorted(named))
     pairs = [(order.start, order.end) for order in orders]
     figure, whole = figures(recording, colours, named, ROOMY, lambda lanes: place_by_orders(lanes, pairs), orders=orders, pale=lambda at: at not in named)
-    words = "No interleaving explains it: each order of the list holds in every legal schedule, with those of the processes, and the last one can't."
+    words = f"No interleaving explains it: each order of the list holds in every legal schedule{within_cases(orders)}, with those of the processes, and the last one can't."
     if answer == "undecided":
         words += " (By its situations alone the question is undecided within the budget.)"
     panel = listed((order_line(order) for order in orders), class_="orders", start=0)
@@ -122,9 +123,10 @@ def steps_of(schedule):
 def scheduled(recording, colours, schedule, steps):
     """The first operations of a schedule, and all of them."""
     def drawing(count):
-        lanes = lanes_of(recording.lengths, set(steps[:count]), 0)
+        drawn = set(steps[:count])
+        lanes = lanes_of(recording.lengths, drawn, 0)
         place_by_schedule(lanes, schedule[:count])
-        return Drawing(recording, lanes, colours, *CLOSE, is_numbered=True)
+        return Drawing(recording, lanes, colours, *CLOSE, pale=lambda at: at not in drawn, is_numbered=True)
     if len(steps) <= WINDOW:
         return drawing(len(steps)), None
     return drawing(WINDOW), drawing(len(steps)) if len(steps) <= MOST_DRAWN else None
