@@ -1,5 +1,6 @@
 //! Schedules that are proposed: by a walk guided by what every legal schedule must do, by long turns, by windows, by sources for
-//! reads. Nothing of a proposal is believed, and no contract here says more than that a call is safe and ends; `scm_schedules::is_legal` is the judge.
+//! reads. Nothing of a proposal is believed, and no contract here says more than that a call is safe and ends;
+//! `scm_schedules::is_legal` is the judge.
 #![tactic(auto)]
 
 mod beginning;

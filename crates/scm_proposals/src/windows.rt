@@ -5,8 +5,8 @@ use crate::proposal::Proposer;
 use scm_clocks::{Given, Part};
 use scm_cycles::{Guess, SKEWS, find_sources};
 
-/// How many operations of each process a window has at first: so many for each process, within these bounds. One without a
-/// schedule is followed by one of twice as many that begins earlier.
+/// How many operations of each process a window has at first: so many for each process, within these bounds, and no more than
+/// leave a trace `LEAST_WINDOWS`. One without a schedule is followed by one of twice as many that begins earlier.
 const WIDTH_OF_PROCESS: u32 = 14;
 
 const LEAST_WIDTH: u32 = 64;
@@ -14,7 +14,7 @@ const LEAST_WIDTH: u32 = 64;
 const MOST_WIDTH: u32 = 128;
 
 /// How many times as many it has at most.
-const MOST_WIDTHS: u32 = 4;
+const MOST_WIDTHS: u32 = 2;
 
 /// By which part of the first skew those of windows grow: by more than for a whole trace, since it isn't known how far each
 /// process is ahead where a window begins.
@@ -26,23 +26,29 @@ const CHECKED: u32 = 10;
 
 const KEPT: u32 = 7;
 
+/// How many shares take turns: each time that a window as wide as can be has no schedule, the next ones keep a sixteenth less,
+/// or as much as at first. So they begin elsewhere than those that led there.
+const SHARES: u32 = 4;
+
 const SIXTEENTHS: u32 = 16;
 
 /// The fuel for each operation of a window, at most.
 const WINDOW_FUEL: u64 = 2_000;
 
-/// For how many windows a trace is long enough, and for how many processes they cost less than the trace as a whole.
+/// How many windows a trace has room for, and for how many processes they cost less than the trace as a whole.
 const LEAST_WINDOWS: u32 = 3;
 
 const MOST_PROCESSES_OF_WINDOWS: usize = 16;
 
-/// What was made so far, how wide the next window is, and the number of the first skew that is supposed there.
+/// What was made so far, how wide the next window is, the number of the first skew that is supposed there, and how many windows
+/// as wide as can be had no schedule.
 #[derive(Drop)]
 struct WindowProgress {
     beginning: Beginning,
     schedule: Vec<u8>,
     width: u32,
     skew_number: u64,
+    failed: u32,
 }
 
 impl WindowProgress {
@@ -58,7 +64,8 @@ impl WindowProgress {
 
     // How many places of the schedule of a window are kept.
     fn kept(&self) -> usize {
-        let places = self.width.saturating_mul(KEPT) / SIXTEENTHS;
+        let share = KEPT.saturating_sub(self.failed % SHARES);
+        let places = self.width.saturating_mul(share) / SIXTEENTHS;
         (places as usize).saturating_mul(self.beginning.counts.len())
     }
 
@@ -90,6 +97,7 @@ impl Proposer<'_> {
             schedule: Vec::new(self.alloc),
             width,
             skew_number: 0,
+            failed: 0,
         };
         for _ in 0..*fuel {
             if progress.beginning.left(self.lengths) == 0 {
@@ -107,7 +115,13 @@ impl Proposer<'_> {
     fn least_width(&self) -> Option<u32> {
         let procs = u32::try_from(self.counts.len()).ok()?;
         let width = procs.saturating_mul(WIDTH_OF_PROCESS);
-        Some(width.max(LEAST_WIDTH).min(MOST_WIDTH))
+        let longest = self.counts.iter().copied().max()?;
+        Some(
+            width
+                .min(MOST_WIDTH)
+                .min(longest / LEAST_WINDOWS)
+                .max(LEAST_WIDTH),
+        )
     }
 
     // Adds the schedule of the next window, as far as it is kept. Whether there is one.
@@ -154,23 +168,24 @@ impl Proposer<'_> {
         guess
     }
 
-    // Takes back as many places as are kept of a window, for one that is twice as wide. `None` where nothing is kept, and where
-    // the window is as wide as can be.
+    // Takes back as many places as are kept of a window, for one that is twice as wide, or as wide as can be. `None` where the
+    // first one is that wide.
     fn go_back(&self, progress: &mut WindowProgress, fuel: &mut u64) -> Option<()> {
-        if progress.schedule.is_empty() {
-            return None;
-        }
-        if progress.width >= self.least_width()?.saturating_mul(MOST_WIDTHS) {
+        let most = self.least_width()?.saturating_mul(MOST_WIDTHS);
+        if progress.schedule.is_empty() && progress.width >= most {
             return None;
         }
         let kept = progress.schedule.len().saturating_sub(progress.kept());
+        if progress.width >= most {
+            progress.failed = progress.failed.saturating_add(1);
+        }
         *fuel = fuel.checked_sub(kept as u64)?;
         progress.schedule.truncate(kept);
         progress.beginning = Beginning::new(self.alloc, self.initials, self.counts.len())?;
         progress
             .beginning
             .follow(self.sequences, self.lengths, progress.schedule.as_slice());
-        progress.width = progress.width.saturating_mul(2);
+        progress.width = progress.width.saturating_mul(2).min(most);
         progress.skew_number = 0;
         Some(())
     }

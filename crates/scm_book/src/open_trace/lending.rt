@@ -97,8 +97,7 @@ impl OpenTrace {
     }
 
     /// The set, to be searched elsewhere for what questions will want. `None`, with everything as it was, where it is settled,
-    /// a schedule is known or memory is refused. It isn't asked for again until it grows or its budget is
-    /// raised.
+    /// a schedule is known or memory is refused. It isn't asked for again until it grows or its budget is raised.
     pub(crate) fn lend_work(&mut self, alloc: Global, name: Name) -> Option<Loan>
         ensures state { self.new.state ≡ self.old.state }
         ensures lends { MatchOption result (self.new.set ≡ self.old.set) (λ loan. Lends name None self.old.state self.old.set loan self.new.set) }
