@@ -64,7 +64,7 @@ def synchronized(name, procs, samples):
 
 
 def of_values(procs, length, cells, values, scheduler, samples):
-    rng = random.Random(f"values {procs} {length} {values} {scheduler}")
+    rng = random.Random(f"{procs} x {length}, {values} values, {scheduler}")
     for _ in range(samples):
         yield traces.script(*traces.of_values(rng, procs, length, cells, values, scheduler))
 

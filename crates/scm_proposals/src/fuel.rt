@@ -5,7 +5,7 @@ use scm_sequences::Lengths;
 /// much. With it the one takes about as long as the other.
 const SEARCH_FUEL_OF_FOUR: u64 = 6;
 
-const LEAST_SEARCH_FUEL: u64 = 7;
+const LEAST_SEARCH_FUEL: u64 = 6;
 
 const MOST_SEARCH_FUEL: u64 = 36;
 
