@@ -5,8 +5,8 @@ use crate::proposal::Proposer;
 use scm_clocks::{Given, Part};
 use scm_cycles::{Guess, SKEWS, find_sources};
 
-/// How many operations of each process a window has at first: so many for each process, within these bounds, and no more than
-/// leave a trace `LEAST_WINDOWS`. One without a schedule is followed by one of twice as many that begins earlier.
+/// How many operations of each process a window has at first: so many for each process, within these bounds. One without a
+/// schedule is followed by one of twice as many that begins earlier.
 const WIDTH_OF_PROCESS: u32 = 14;
 
 const LEAST_WIDTH: u32 = 64;
@@ -35,7 +35,8 @@ const SIXTEENTHS: u32 = 16;
 /// The fuel for each operation of a window, at most.
 const WINDOW_FUEL: u64 = 2_000;
 
-/// How many windows a trace has room for, and for how many processes they cost less than the trace as a whole.
+/// For how many windows a trace is long enough, and for how many processes they cost less than the trace as a whole: in shorter
+/// ones of two values they find less than the search that comes after them.
 const LEAST_WINDOWS: u32 = 3;
 
 const MOST_PROCESSES_OF_WINDOWS: usize = 16;
@@ -115,13 +116,7 @@ impl Proposer<'_> {
     fn least_width(&self) -> Option<u32> {
         let procs = u32::try_from(self.counts.len()).ok()?;
         let width = procs.saturating_mul(WIDTH_OF_PROCESS);
-        let longest = self.counts.iter().copied().max()?;
-        Some(
-            width
-                .min(MOST_WIDTH)
-                .min(longest / LEAST_WINDOWS)
-                .max(LEAST_WIDTH),
-        )
+        Some(width.max(LEAST_WIDTH).min(MOST_WIDTH))
     }
 
     // Adds the schedule of the next window, as far as it is kept. Whether there is one.
