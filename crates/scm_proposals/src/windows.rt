@@ -5,29 +5,28 @@ use crate::proposal::Proposer;
 use scm_clocks::{Given, Part};
 use scm_cycles::{Guess, SKEWS, find_sources};
 
-/// How many operations of each process a window has at first: so many for each process, within these bounds. One without a
-/// schedule is followed by one of twice as many that begins earlier.
+/// How many operations of each process a window has: so many for each process, within these bounds.
 const WIDTH_OF_PROCESS: u32 = 14;
 
 const LEAST_WIDTH: u32 = 64;
 
 const MOST_WIDTH: u32 = 128;
 
-/// How many times as many it has at most.
-const MOST_WIDTHS: u32 = 2;
+/// How many times as many one has that follows a window without a schedule. It begins earlier.
+const WIDENING: u32 = 2;
 
 /// By which part of the first skew those of windows grow: by more than for a whole trace, since it isn't known how far each
 /// process is ahead where a window begins.
 const WINDOW_SKEW_DIVISOR: u64 = 3;
 
-/// Of how many sixteenths of a window it is checked what they found, and how many are kept, in the mean of all processes. What
-/// lies between is looked ahead.
+/// Of how many sixteenths of a window it is checked what they found, and how many are kept at first, in the mean of all processes.
+/// What lies between is looked ahead.
 const CHECKED: u32 = 10;
 
 const KEPT: u32 = 7;
 
-/// How many shares take turns: each time that a window as wide as can be has no schedule, the next ones keep a sixteenth less,
-/// or as much as at first. So they begin elsewhere than those that led there.
+/// How many shares take turns: each time that a widened window has no schedule, the next ones keep a sixteenth less, and after the
+/// least share as much as at first. So they begin elsewhere than those that led there.
 const SHARES: u32 = 4;
 
 const SIXTEENTHS: u32 = 16;
@@ -35,14 +34,14 @@ const SIXTEENTHS: u32 = 16;
 /// The fuel for each operation of a window, at most.
 const WINDOW_FUEL: u64 = 2_000;
 
-/// For how many windows a trace is long enough, and for how many processes they cost less than the trace as a whole: in shorter
-/// ones of two values they find less than the search that comes after them.
+/// For how many windows a trace is long enough (in shorter ones of two values they find less than the search that comes after
+/// them), and for how many processes they cost less than the trace as a whole.
 const LEAST_WINDOWS: u32 = 3;
 
 const MOST_PROCESSES_OF_WINDOWS: usize = 16;
 
-/// What was made so far, how wide the next window is, the number of the first skew that is supposed there, and how many windows
-/// as wide as can be had no schedule.
+/// What was made so far, how wide the next window is, the number of the first skew that is supposed there, and how many widened
+/// windows had no schedule.
 #[derive(Drop)]
 struct WindowProgress {
     beginning: Beginning,
@@ -87,7 +86,7 @@ impl Proposer<'_> {
     /// A schedule of a long trace of few processes, none of which gets far ahead of the others.
     pub(crate) fn complete_by_windows(&self, fuel: &mut u64) -> Option<Vec<u8>> {
         let longest = self.counts.iter().copied().max()?;
-        let width = self.least_width()?;
+        let width = self.window_width()?;
         if self.counts.len() > MOST_PROCESSES_OF_WINDOWS
             || longest < LEAST_WINDOWS.saturating_mul(width)
         {
@@ -105,7 +104,7 @@ impl Proposer<'_> {
                 return Some(progress.schedule);
             }
             if self.add_window(&mut progress, fuel)? {
-                progress.width = (progress.width / 2).max(width);
+                progress.width = width;
             } else {
                 self.go_back(&mut progress, fuel)?;
             }
@@ -113,7 +112,7 @@ impl Proposer<'_> {
         None
     }
 
-    fn least_width(&self) -> Option<u32> {
+    fn window_width(&self) -> Option<u32> {
         let procs = u32::try_from(self.counts.len()).ok()?;
         let width = procs.saturating_mul(WIDTH_OF_PROCESS);
         Some(width.max(LEAST_WIDTH).min(MOST_WIDTH))
@@ -163,24 +162,22 @@ impl Proposer<'_> {
         guess
     }
 
-    // Takes back as many places as are kept of a window, for one that is twice as wide, or as wide as can be. `None` where the
-    // first one is that wide.
+    // Takes back as many places as are kept of a window, for a widened one. `None` where the first was widened already.
     fn go_back(&self, progress: &mut WindowProgress, fuel: &mut u64) -> Option<()> {
-        let most = self.least_width()?.saturating_mul(MOST_WIDTHS);
-        if progress.schedule.is_empty() && progress.width >= most {
+        let widened = self.window_width()?.saturating_mul(WIDENING);
+        let is_widened = progress.width == widened;
+        if is_widened && progress.schedule.is_empty() {
             return None;
         }
         let kept = progress.schedule.len().saturating_sub(progress.kept());
-        if progress.width >= most {
-            progress.failed = progress.failed.saturating_add(1);
-        }
         *fuel = fuel.checked_sub(kept as u64)?;
         progress.schedule.truncate(kept);
         progress.beginning = Beginning::new(self.alloc, self.initials, self.counts.len())?;
         progress
             .beginning
             .follow(self.sequences, self.lengths, progress.schedule.as_slice());
-        progress.width = progress.width.saturating_mul(2).min(most);
+        progress.failed = progress.failed.saturating_add(u32::from(is_widened));
+        progress.width = widened;
         progress.skew_number = 0;
         Some(())
     }
