@@ -15,8 +15,8 @@
  * in C++ by scm::atomic<T> in place of std::atomic<T>, in both by scm_plain_load and scm_plain_store, and by
  * scm_record_load, _store and _read_write for what has its own instructions. Fences are no accesses. An access that you
  * leave as it is isn't recorded: where it is a load no verdict becomes wrong, but a missing store makes the trace one about
- * nothing. So does a cell that is stored to by bytes, by another process or by the system, an access from a signal handler, and
- * one in a library that is opened while the program runs, unless the program is linked with -rdynamic.
+ * nothing. So does a cell that is stored to by bytes, by another process or by the system, an access from a signal handler, and a
+ * store in a library that is opened while the program runs, unless the program is linked with -rdynamic.
  *
  * How. A thread has a buffer of its own from its first access on; an access takes a time stamp from the processor's counter
  * and a store into that buffer, no lock, no system call and no allocation. The lines of the script stand in about the order of
@@ -25,7 +25,7 @@
  * stand one after another. The order makes no verdict wrong; a good one has long traces decided. Recording takes time, and so
  * changes how threads meet: examples/recording measures how much.
  *
- * What doesn't fit is told. At most 32 threads, 64 cells, and as many accesses as a monitor takes calls; where a thread too many
+ * What doesn't fit is told. At most 32 threads, 64 cells, and fewer accesses than a monitor takes calls; where a thread too many
  * came, a buffer was too short or an address isn't a cell, nothing is written and the status says why. */
 #ifndef SCM_RECORD_H
 #define SCM_RECORD_H
@@ -237,7 +237,8 @@ static inline bool scm_record_is_name(const char *name) {
 }
 
 /* Names a cell, for this recording and those after it. What it holds when a recording begins is its first value there; it
- * must be memory then. A cell without a name is called by its address, and its first value is unknown. */
+ * must be memory then. A cell without a name is called by its address, and its first value is unknown, as that of one that got its
+ * name while the recording was on. */
 static inline int scm_record_name(const volatile void *at, size_t bytes, const char *name) {
   struct scm_record_state *state = &scm_record_state;
   if (!scm_record_is_name(name))
@@ -348,10 +349,10 @@ static inline int scm_record_add_cell(struct scm_record_cells *cells, const stru
     return cells->cells[*place - 1].bytes == cell->bytes ? SCM_RECORD_DONE : SCM_RECORD_BAD_ADDRESS;
   if ((cell->bytes != 4 && cell->bytes != 8) || (uintptr_t)cell->at % cell->bytes != 0)
     return SCM_RECORD_BAD_ADDRESS;
-  if (cells->count == SCM_RECORD_MOST_CELLS)
-    return SCM_RECORD_TOO_MANY_CELLS;
   if (scm_record_overlapped(cells, cell->at, cell->bytes) != NULL)
     return SCM_RECORD_BAD_ADDRESS;
+  if (cells->count == SCM_RECORD_MOST_CELLS)
+    return SCM_RECORD_TOO_MANY_CELLS;
   for (unsigned number = 0; number < cells->count; number++)
     if (strcmp(cell->name, cells->cells[number].name) == 0)
       return SCM_RECORD_BAD_NAME;
@@ -378,7 +379,8 @@ static inline int scm_record_cells_of(const struct scm_record_buffer *buffer, st
   for (size_t place = 0; place < buffer->count; place++) {
     const struct scm_record_access *access = &buffer->accesses[place];
     struct scm_record_cell cell = {access->at, 0, access->bytes, false, ""};
-    if (scm_record_state.only_named && scm_record_overlapped(cells, access->at, access->bytes) == NULL)
+    if (scm_record_state.only_named && *scm_record_place(cells, access->at) == 0 &&
+        scm_record_overlapped(cells, access->at, access->bytes) == NULL)
       continue;
     snprintf(cell.name, sizeof cell.name, "m%llx", (unsigned long long)(uintptr_t)access->at);
     int status = scm_record_add_cell(cells, &cell);
@@ -680,10 +682,12 @@ public:
   }
 
   T fetch_add(T by, order o = std::memory_order_seq_cst) {
+    static_assert(std::is_integral<T>::value, "sums are recorded of integers");
     T old_value = value_.fetch_add(by, o);
     return changed(old_value, bits(old_value) + bits(by));
   }
   T fetch_sub(T by, order o = std::memory_order_seq_cst) {
+    static_assert(std::is_integral<T>::value, "sums are recorded of integers");
     T old_value = value_.fetch_sub(by, o);
     return changed(old_value, bits(old_value) - bits(by));
   }

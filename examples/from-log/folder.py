@@ -73,7 +73,7 @@ class Runner:
 
 
 def arguments():
-    statuses = "Status: 4 where a line was refused or a log gives no script, else 5 where one is inconsistent, else 6 where one is undecided, else 0; 2 bad input, 70 no monitor."
+    statuses = "Status: 4 where a line was refused or a log gives no script, else 5 where one is inconsistent, else 6 where one is undecided, else 0; 2 bad input, 70 no monitor, 74 the output can't be written."
     parser = argparse.ArgumentParser(prog="folder", description=__doc__, epilog=statuses, formatter_class=argparse.RawDescriptionHelpFormatter)
     parser.add_argument("logs", metavar="LOGS", help="a folder of logs")
     parser.add_argument("out", metavar="OUT", help="a folder for what is made; it is made where it isn't there")
@@ -94,14 +94,20 @@ def rows_of(options, logs):
     return rows, counts
 
 
+def made(path, *words):
+    """Writes what a tool prints into a file."""
+    with open(path, "wb") as file:
+        status = subprocess.run(words, stdout=file, check=False).returncode
+    if status:
+        raise Stop(f"{path} could not be made", status)
+
+
 def shrink(options, row):
     """What is left of an inconsistent trace, in words."""
     whole, small = f"{options.out}/{row.name}.scm", f"{options.out}/{row.name}.small.scm"
     program = ["--program", options.program]
-    with open(small, "wb") as file:
-        subprocess.run([f"{TOOLS}/shrink", whole, *program], stdout=file, check=True)
-    with open(f"{options.out}/{row.name}.html", "wb") as file:
-        subprocess.run([f"{TOOLS}/picture", small, *program], stdout=file, check=True)
+    made(small, f"{TOOLS}/shrink", whole, *program)
+    made(f"{options.out}/{row.name}.html", f"{TOOLS}/picture", small, *program)
     left = sum(b" do " in line and not line.startswith(b"#") for line in read_script(small).splitlines())
     return f"{left} operations left in {row.name}.small.scm, drawn in {row.name}.html"
 

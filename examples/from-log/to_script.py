@@ -6,7 +6,7 @@ import sys
 MOST_CELLS = 64  # of a trace
 
 # An access has an address, what was stored or given ('data='), and what came back ('->').
-ACCESS = re.compile(r"hart (\d+): (\S+) .*addr=(\w+)(?: data=(\w+))?(?: -> (\w+))?")
+ACCESS = re.compile(r"hart (\d+): (\S+) .*addr=(\S+)(?: data=(\S+))?(?: -> (\S+))?")
 
 SIZES = {"w": 4, "d": 8}  # in bytes
 
@@ -16,7 +16,9 @@ harts_of = {}  # a cell's name, and the harts that accessed it
 reserved = {}  # a hart, its lr's width and cell, what the lr saw, and its place among the accesses
 
 
-def add(hart, words):
+def add(hart, words, line):
+    if "None" in words.split():
+        sys.exit(f"to_script: a value is missing: {line}")
     accesses.append((int(hart), words))
 
 
@@ -50,7 +52,7 @@ for line in sys.stdin:
 
     if name.startswith("lr."):
         reserved[hart] = (width, cell, back, len(accesses))
-        add(hart, f"l{width} {cell} {back}")
+        add(hart, f"l{width} {cell} {back}", line)
     elif name.startswith("sc."):
         pair = reserved.pop(hart, None)
         if back is None:
@@ -60,13 +62,13 @@ for line in sys.stdin:
         if not pair or pair[:2] != (width, cell):
             sys.exit(f"to_script: an sc that succeeded without its lr: {line}")
         accesses[pair[3]] = None  # one step, where the sc stands
-        add(hart, f"rw {cell} {pair[2]} {data}")
+        add(hart, f"rw {cell} {pair[2]} {data}", line)
     elif name.startswith("amo"):
-        add(hart, f"{name} {cell} {data} {back}")  # what was given, then what came back
+        add(hart, f"{name} {cell} {data} {back}", line)  # what was given, then what came back
     elif name.startswith("s"):
-        add(hart, f"{name} {cell} {data}")
+        add(hart, f"{name} {cell} {data}", line)
     else:
-        add(hart, f"{name} {cell} {back}")
+        add(hart, f"{name} {cell} {back}", line)
 
 accesses = [access for access in accesses if access]
 if not accesses:

@@ -14,7 +14,6 @@ enum {
   RING_SLOTS = 4,
   SPINS_BEFORE_YIELDING = 10000,
   BUDGET = 1000000,
-  MOST_CALLS = 1048576, /* what the monitor has room for in one script */
 };
 
 /* A cell of its own cache line. */
@@ -274,7 +273,7 @@ static void end_trace(unsigned trace) {
   scm_record_end();
   snprintf(name, sizeof name, "run-%u", trace);
   size_t calls = count + runs.program->threads + 3;
-  bool is_room = calls <= MOST_CALLS - runs.calls;
+  bool is_room = calls <= SCM_RECORD_MOST_CALLS - runs.calls;
   int status = is_room ? scm_record_write(stdout, runs.program->name, name, BUDGET) : SCM_RECORD_DONE;
   if (status == SCM_RECORD_WRITE_FAILED)
     fail(scm_record_message(status));

@@ -28,8 +28,11 @@ def run_tool(name, main):
     except BrokenPipeError:  # whoever read the output has enough
         os.dup2(os.open(os.devnull, os.O_WRONLY), sys.stdout.fileno())
     except OSError as fault:
+        if fault.filename is not None:  # a file that can't be opened: no fault of the output
+            print(f"{name}: {fault.filename}: {fault.strerror}", file=sys.stderr)
+            sys.exit(BAD_INPUT)
         os.dup2(os.open(os.devnull, os.O_WRONLY), sys.stdout.fileno())
-        print(f"{name}: the output can't be written: {fault.strerror}", file=sys.stderr)
+        print(f"{name}: the output can't be written: {fault.strerror or fault}", file=sys.stderr)
         sys.exit(NOT_WRITTEN)
     except KeyboardInterrupt:
         sys.exit(INTERRUPTED)

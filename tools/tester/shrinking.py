@@ -1,7 +1,7 @@
 """Makes an inconsistent trace smaller, so that the inconsistency of the smaller one shows that of the larger.
 
 A legal schedule of the larger trace, without the operations that went, is one of the smaller: each read that stays still
-has the same write before it, since no operation that stays reads a value that a write which went has left in its cell."""
+has the same write before it, since no other operation that stays reads a value that a write which went has left in its cell."""
 from dataclasses import dataclass, replace
 
 from model.machine import OPEN
@@ -14,7 +14,7 @@ LAWS = {
     "stores": "a store goes whose value no operation that stays reads from its cell: none of them saw it",
     "read-and-writes": "a read-and-write goes, as a load and a store, where no operation that stays reads what it wrote",
     "read-and-writes that became stores": "the read of a read-and-write goes, as a load does",
-    "read-and-writes that became loads": "the write of a read-and-write goes, as a store does",
+    "read-and-writes that became loads": "the write of a read-and-write goes, where no other operation that stays reads what it wrote",
     "processes": "a process without operations goes",
     "names": "cells get short names, and so do values, each cell's one by one: a schedule stays as legal as it was",
 }
