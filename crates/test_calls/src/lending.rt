@@ -211,7 +211,7 @@ fn a_raised_budget_goes_on(rt: HostRuntime) {
     drop(book);
 }
 
-/// Of this trace no schedule is found within a budget of 300, and one is within 3,000.
+/// Of this trace no schedule is found within a budget of 300, and one is within 4,000.
 const IN_VAIN: &str = "open t 4 300 x0 x1 x2; claim t 0; claim t 1; claim t 2; claim t 3;\
     do t 0 sw x0 3; do t 0 lw x1 2; do t 0 rw x2 0 1; do t 0 lw x1 1; do t 0 rw x0 0 3; do t 0 sw x0 0;\
     do t 0 lw x0 2; do t 0 lw x1 2; do t 0 sw x2 2; do t 1 sw x1 2; do t 1 sw x0 0; do t 1 sw x1 2;\
@@ -225,7 +225,7 @@ const IN_VAIN: &str = "open t 4 300 x0 x1 x2; claim t 0; claim t 1; claim t 2; c
 fn a_raised_budget_proposes_again(rt: HostRuntime) {
     let mut book = played(&rt, rt.alloc(), IN_VAIN);
     let loan = searched(&rt, rt.alloc(), &mut book);
-    play(&rt, rt.alloc(), &mut book, "raise t 3000");
+    play(&rt, rt.alloc(), &mut book, "raise t 4000");
     book.take_back(loan);
     assert_held(&rt, &book, 300);
     let _steps = steps_to_ask(&rt, &mut book, "consistent");
