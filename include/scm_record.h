@@ -401,7 +401,7 @@ static inline int scm_record_all_cells(struct scm_record_cells *cells) {
     status = scm_record_add_cell(cells, &state->cells[number]);
   for (unsigned number = 0; status == SCM_RECORD_DONE && number < scm_record_threads(); number++)
     status = scm_record_cells_of(&state->buffers[number], cells);
-  if (status == SCM_RECORD_DONE && scm_record_count() == 0)
+  if (status == SCM_RECORD_DONE && cells->accesses == 0)
     return SCM_RECORD_NOTHING;
   if (status == SCM_RECORD_DONE && cells->accesses + scm_record_threads() + 3 > SCM_RECORD_MOST_CALLS)
     return SCM_RECORD_TOO_MANY_ACCESSES;

@@ -167,6 +167,9 @@ static void each_fault_of_values(void) {
   scm_record_load(&data, 260, 0);
   expect(written(), SCM_RECORD_BAD_ADDRESS, "an access of 260 bytes");
   scm_record_only_named();
+  scm_record_begin(1, 100);
+  scm_plain_load(&many[0]);
+  expect(written(), SCM_RECORD_NOTHING, "an access of another cell than the named one");
   scm_record_name((char *)&wide + 4, 4, "half");
   scm_record_begin(1, 100);
   scm_record_store(&wide, sizeof wide, 1);
