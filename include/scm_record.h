@@ -492,10 +492,13 @@ static inline unsigned scm_record_reader_before(struct scm_record_script *script
   uint64_t value = change->kind == SCM_RECORD_READ_WRITE ? change->second : change->first;
   if (place == 0 || change->kind == SCM_RECORD_LOAD || !front->is_known[place - 1] || front->contents[place - 1] == value)
     return thread;
-  for (unsigned other = 0; other < scm_record_threads(); other++)
-    if (other != thread && scm_record_still_reads(front, other, change->at, front->contents[place - 1], change->time) &&
-        scm_record_fits(script, front, scm_record_next(front, other)))
+  for (unsigned other = 0; other < scm_record_threads(); other++) {
+    const struct scm_record_access *next = scm_record_next(front, other);
+    /* A thread that waits for a store may have made nearly all its accesses by then: they aren't looked through. */
+    if (other != thread && next != NULL && scm_record_fits(script, front, next) &&
+        scm_record_still_reads(front, other, change->at, front->contents[place - 1], change->time))
       return other;
+  }
   return thread;
 }
 

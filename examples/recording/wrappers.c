@@ -3,6 +3,7 @@
 #include "scm_record.h"
 
 #include <pthread.h>
+#include <time.h>
 
 #ifdef __cplusplus
 typedef scm::atomic<uint32_t> word;
@@ -108,6 +109,12 @@ static void *load_often(void *argument) {
   return argument;
 }
 
+static void *store_often(void *argument) {
+  for (uint32_t i = 0; i < 30000; i++)
+    scm_plain_store(&many[1], i);
+  return argument;
+}
+
 static void *load_data(void *argument) {
   scm_plain_load(&data);
   return argument;
@@ -182,9 +189,28 @@ static void each_fault_of_values(void) {
   scm_record_free();
 }
 
+/* A thread whose first load nobody explains, as in what the recorder looks for, waits to the end of the script. */
+static void write_with_one_that_waits(void) {
+  pthread_t other;
+  scm_record_name(&many[0], sizeof many[0], "unexplained");
+  scm_record_begin(2, 600001);
+  scm_record_load(&many[0], sizeof many[0], many[0] + 1);
+  load_often(NULL);
+  pthread_create(&other, NULL, store_often, NULL);
+  pthread_join(other, NULL);
+  clock_t began = clock();
+  expect(written(), SCM_RECORD_DONE, "630,001 accesses");
+  if ((clock() - began) / CLOCKS_PER_SEC >= 20) {
+    fprintf(stderr, "wrappers: 630,001 accesses take %ld s to write\n", (long)((clock() - began) / CLOCKS_PER_SEC));
+    faults++;
+  }
+  scm_record_free();
+}
+
 int main(void) {
   write_wrappers();
   each_fault();
   each_fault_of_values();
+  write_with_one_that_waits();
   return faults != 0;
 }
