@@ -606,9 +606,9 @@ static inline int scm_record_ask(scm_monitor *monitor, const char *session, cons
 
 #ifdef __cplusplus
 
-template <typename T> inline T scm_plain_load(const T *at) {
+template <typename T> inline typename std::remove_volatile<T>::type scm_plain_load(const T *at) {
   static_assert(sizeof(T) == 4 || sizeof(T) == 8, "4 or 8 bytes");
-  T value = *const_cast<const volatile T *>(at);
+  typename std::remove_volatile<T>::type value = *const_cast<const volatile T *>(at);
   scm_record_load(at, sizeof value, scm_record_bits(&value, sizeof value));
   return value;
 }

@@ -36,6 +36,7 @@ static double_word wide;
 static number small;
 static pointer text;
 static uint32_t data = 7;
+static volatile uint64_t restless = 6;
 static uint32_t many[SCM_RECORD_MOST_CELLS + 1];
 static int faults;
 
@@ -63,6 +64,7 @@ static void each_wrapper(void) {
   FETCH(add, small, -1);
   STORE(text, NULL);
   scm_plain_store(&data, scm_plain_load(&data) + seen);
+  scm_plain_store(&restless, scm_plain_load(&restless) - 7);
 }
 
 static void write_wrappers(void) {
@@ -71,6 +73,7 @@ static void write_wrappers(void) {
   scm_record_name(&small, sizeof small, "small");
   scm_record_name(&text, sizeof text, "text");
   scm_record_name(&data, sizeof data, "data");
+  scm_record_name(&restless, sizeof restless, "restless");
   scm_record_begin(1, 100);
   each_wrapper();
   scm_record_end();
