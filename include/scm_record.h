@@ -794,6 +794,7 @@ public:
 #define SCM_RECORD_FETCH(operation, sign, object, by, order)                                                            \
   __extension__({                                                                                                       \
     __auto_type scm_at_ = (object);                                                                                     \
+    _Static_assert((SCM_RECORD_TYPE(scm_at_))1 / 2 == 0, "sums are recorded of integers");                              \
     SCM_RECORD_TYPE(scm_at_) scm_by_ = (by);                                                                            \
     SCM_RECORD_SIZED(scm_by_);                                                                                          \
     SCM_RECORD_TYPE(scm_at_) scm_old_ = atomic_fetch_##operation##_explicit(scm_at_, scm_by_, (order));                 \
