@@ -104,7 +104,8 @@ struct scm_record_access {
   uint64_t time;
   const volatile void *at;
   uint64_t first, second; /* what was loaded or stored; the old value and the new one */
-  uint8_t kind, bytes;
+  uint32_t bytes;
+  uint8_t kind;
 };
 
 struct scm_record_buffer {
@@ -116,7 +117,7 @@ struct scm_record_buffer {
 struct scm_record_cell {
   const volatile void *at;
   uint64_t first;
-  uint8_t bytes;
+  uint32_t bytes;
   bool is_known; /* what it held at first */
   char name[SCM_RECORD_LONGEST_NAME + 1];
 };
@@ -201,7 +202,7 @@ static inline void scm_record_access(unsigned kind, const volatile void *at, siz
   access->first = scm_record_cut(first, bytes);
   access->second = scm_record_cut(second, bytes);
   access->kind = (uint8_t)kind;
-  access->bytes = (uint8_t)(bytes <= UINT8_MAX ? bytes : UINT8_MAX);
+  access->bytes = bytes < UINT32_MAX ? (uint32_t)bytes : UINT32_MAX;
 }
 
 static inline void scm_record_load(const volatile void *at, size_t bytes, uint64_t value) {
@@ -249,7 +250,7 @@ static inline int scm_record_name(const volatile void *at, size_t bytes, const c
     return SCM_RECORD_TOO_MANY_CELLS;
   struct scm_record_cell *cell = &state->cells[state->named++];
   cell->at = at;
-  cell->bytes = (uint8_t)bytes;
+  cell->bytes = (uint32_t)bytes;
   cell->is_known = false; /* until a recording begins */
   strcpy(cell->name, name);
   return SCM_RECORD_DONE;

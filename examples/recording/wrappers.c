@@ -184,6 +184,11 @@ static void each_fault_of_values(void) {
   scm_record_begin(1, 100);
   scm_record_store(&wide, sizeof wide, 1);
   expect(written(), SCM_RECORD_BAD_ADDRESS, "an access that overlaps a named cell");
+  scm_record_name(&many[SCM_RECORD_MOST_CELLS], sizeof *many, "last");
+  scm_record_begin(1, 100);
+  scm_record_store(many, sizeof many, 0);
+  scm_record_load(&many[SCM_RECORD_MOST_CELLS], sizeof *many, 0);
+  expect(written(), SCM_RECORD_BAD_ADDRESS, "an access of 260 bytes whose last are a named cell");
   scm_record_begin(2, 600000);
   load_often(NULL);
   pthread_create(&other, NULL, load_often, NULL);
