@@ -719,6 +719,9 @@ public:
   T operator--(int) { return fetch_sub(1); }
   T operator+=(T by) { return of_bits(bits(fetch_add(by)) + bits(by)); }
   T operator-=(T by) { return of_bits(bits(fetch_sub(by)) - bits(by)); }
+  T operator&=(T by) { return of_bits(bits(fetch_and(by)) & bits(by)); }
+  T operator|=(T by) { return of_bits(bits(fetch_or(by)) | bits(by)); }
+  T operator^=(T by) { return of_bits(bits(fetch_xor(by)) ^ bits(by)); }
 };
 
 } // namespace scm

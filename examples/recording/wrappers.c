@@ -17,6 +17,7 @@ typedef scm::atomic<const char *> pointer;
 #define EXCHANGE(cell, value) cell.exchange(value)
 #define STRONG(cell, expected, desired) cell.compare_exchange_strong(expected, desired)
 #define FETCH(operation, cell, by) cell.fetch_##operation(by)
+#define CHANGE(operation, sign, cell, by) (cell sign(by))
 #else
 typedef _Atomic uint32_t word;
 typedef _Atomic uint64_t double_word;
@@ -29,6 +30,12 @@ typedef _Atomic(const char *) pointer;
 #define EXCHANGE(cell, value) scm_atomic_exchange(&cell, value)
 #define STRONG(cell, expected, desired) scm_atomic_compare_exchange_strong(&cell, &expected, desired)
 #define FETCH(operation, cell, by) scm_atomic_fetch_##operation(&cell, by)
+#define CHANGE(operation, sign, cell, by)                                                                               \
+  __extension__({                                                                                                       \
+    uint32_t changed_ = (uint32_t)scm_atomic_fetch_##operation(&cell, by);                                              \
+    changed_ sign(uint32_t)(by);                                                                                        \
+    (int)changed_;                                                                                                      \
+  })
 #endif
 
 static word x;
@@ -47,6 +54,13 @@ static void expect(int status, int wanted, const char *what) {
   faults++;
 }
 
+static void expect_number(int found, int wanted, const char *what) {
+  if (found == wanted)
+    return;
+  fprintf(stderr, "wrappers: %s gave %d\n", what, found);
+  faults++;
+}
+
 static void each_wrapper(void) {
   uint32_t seen = LOAD(x);
   uint64_t expected = 5;
@@ -62,6 +76,11 @@ static void each_wrapper(void) {
   FETCH(xor, wide, 1);
   FETCH(sub, small, 3);
   FETCH(add, small, -1);
+  expect_number(CHANGE(add, +=, small, INT32_MIN), INT32_MAX - 3, "+=");
+  expect_number(CHANGE(sub, -=, small, INT32_MAX), -3, "-=");
+  expect_number(CHANGE(and, &=, small, INT32_MAX), INT32_MAX - 2, "&=");
+  expect_number(CHANGE(xor, ^=, small, -1), INT32_MIN + 2, "^=");
+  expect_number(CHANGE(or, |=, small, 5), INT32_MIN + 7, "|=");
   STORE(text, NULL);
   scm_plain_store(&data, scm_plain_load(&data) + seen);
   scm_plain_store(&restless, scm_plain_load(&restless) - 7);
