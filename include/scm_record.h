@@ -239,19 +239,25 @@ static inline bool scm_record_is_name(const char *name) {
 
 /* Names a cell, for this recording and those after it. What it holds when a recording begins is its first value there; it
  * must be memory then. A cell without a name is called by its address, and its first value is unknown, as that of one that got its
- * name while the recording was on. */
+ * name while the recording was on. A cell that is named again has the new name. */
 static inline int scm_record_name(const volatile void *at, size_t bytes, const char *name) {
   struct scm_record_state *state = &scm_record_state;
   if (!scm_record_is_name(name))
     return SCM_RECORD_BAD_NAME;
   if (bytes != 4 && bytes != 8)
     return SCM_RECORD_BAD_ADDRESS;
-  if (state->named == SCM_RECORD_MOST_CELLS)
+  uint32_t number = 0;
+  while (number < state->named && state->cells[number].at != at)
+    number++;
+  if (number == SCM_RECORD_MOST_CELLS)
     return SCM_RECORD_TOO_MANY_CELLS;
-  struct scm_record_cell *cell = &state->cells[state->named++];
+  struct scm_record_cell *cell = &state->cells[number];
+  if (number == state->named || cell->bytes != bytes)
+    cell->is_known = false; /* until a recording begins */
+  if (number == state->named)
+    state->named++;
   cell->at = at;
   cell->bytes = (uint32_t)bytes;
-  cell->is_known = false; /* until a recording begins */
   strcpy(cell->name, name);
   return SCM_RECORD_DONE;
 }

@@ -190,6 +190,12 @@ static void each_fault_of_values(void) {
   scm_record_name(&data, sizeof data, "data");
   scm_record_store(&data, sizeof data, (UINT64_C(1) << 32) + 7);
   expect_first_lines("a open t 1 1000 data:w=?\na claim t 0\na do t 0 sw data 7\n", "a name that came late, and a value of 33 bits");
+  for (unsigned i = 0; i <= SCM_RECORD_MOST_CELLS; i++)
+    expect(scm_record_name(&data, sizeof data, "again"), SCM_RECORD_DONE, "a cell that is named often");
+  scm_record_begin(1, 100);
+  scm_plain_load(&data);
+  scm_record_name(&data, sizeof data, "anew");
+  expect_first_lines("a open t 1 1000 anew:w=7\n", "a cell that is named anew");
   expect(written_to("/dev/null", 0), SCM_RECORD_BAD_BUDGET, "a budget of 0");
   expect(written_to("/dev/full", 1000), SCM_RECORD_WRITE_FAILED, "a full device");
   scm_record_begin(1, 100);
