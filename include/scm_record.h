@@ -11,12 +11,13 @@
  *
  * C11 or C++17, GCC or Clang, on a system where a weak symbol of several files is one (ELF, Mach-O).
  *
- * What is recorded. Aligned accesses of 4 or 8 bytes: in C by the macros scm_atomic_.., named like those of <stdatomic.h>,
- * in C++ by scm::atomic<T> in place of std::atomic<T>, in both by scm_plain_load and scm_plain_store, and by
- * scm_record_load, _store and _read_write for what has its own instructions. Fences are no accesses. An access that you
+ * What is recorded. Aligned accesses of 4 or 8 bytes, of values without padding: in C by the macros scm_atomic_.., named like
+ * those of <stdatomic.h>, in C++ by scm::atomic<T> in place of std::atomic<T>, in both by scm_plain_load and scm_plain_store,
+ * and by scm_record_load, _store and _read_write for what has its own instructions. Fences are no accesses. An access that you
  * leave as it is isn't recorded: where it is a load no verdict becomes wrong, but a missing store makes the trace one about
- * nothing. So does a cell that is stored to by bytes, by another process or by the system, an access from a signal handler, and a
- * store in a library that is opened while the program runs, unless the program is linked with -rdynamic.
+ * nothing. So does a cell that is stored to by bytes, by another process or by the system, an access from a signal handler,
+ * and a store in a library that has a recorder for itself: that is opened while the program runs, unless the program is linked
+ * with -rdynamic; or is linked with -Bsymbolic, or with a version script that keeps scm_record_state and scm_record_own local.
  *
  * How. A thread has a buffer of its own from its first access on; an access takes a time stamp from the processor's counter
  * and a store into that buffer, no lock, no system call and no allocation. The lines of the script stand in about the order of
