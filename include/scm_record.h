@@ -18,6 +18,8 @@
  * nothing. So does a cell that is stored to by bytes, by another process or by the system, an access from a signal handler,
  * and a store in a library that has a recorder for itself: that is opened while the program runs, unless the program is linked
  * with -rdynamic; or is linked with -Bsymbolic, or with a version script that keeps scm_record_state and scm_record_own local.
+ * What a cell is made with (a constructor of scm::atomic, atomic_init) isn't recorded: one that is made while recording, and
+ * has a name or stands where another one was, as a node in freed memory does, needs a store before it is read.
  *
  * How. A thread has a buffer of its own from its first access on; an access takes a time stamp from the processor's counter
  * and a store into that buffer, no lock, no system call and no allocation. The lines of the script stand in about the order of
