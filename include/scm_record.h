@@ -67,6 +67,8 @@ enum { SCM_RECORD_SHORTLY = 300 };
 #else
 enum { SCM_RECORD_SHORTLY = 30 };
 #endif
+/* Accesses of a thread that are looked through for one shortly after a store: without a counter all would be. */
+enum { SCM_RECORD_SOON = 100 };
 
 enum {
   SCM_RECORD_DONE,
@@ -484,7 +486,7 @@ static inline bool scm_record_fits(struct scm_record_script *script, const struc
 /* Whether the thread read the present value of the cell until shortly after this time. */
 static inline bool scm_record_still_reads(const struct scm_record_front *front, unsigned thread, const volatile void *at, uint64_t value, uint64_t time) {
   const struct scm_record_buffer *buffer = &scm_record_state.buffers[thread];
-  for (size_t place = front->next[thread]; place < buffer->count; place++) {
+  for (size_t place = front->next[thread]; place < buffer->count && place - front->next[thread] < SCM_RECORD_SOON; place++) {
     const struct scm_record_access *access = &buffer->accesses[place];
     if (access->time > time + SCM_RECORD_SHORTLY)
       return false;
