@@ -6,5 +6,3 @@ pub mod Passing
 pub mod Auditing
 pub mod Taking
 pub mod Moves
-mod Following
-mod Meeting

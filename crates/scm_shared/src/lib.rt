@@ -3,7 +3,6 @@
 
 mod audit;
 mod caller_counts;
-mod comparing;
 mod length_word;
 mod loans;
 mod locked;

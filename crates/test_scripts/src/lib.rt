@@ -13,6 +13,8 @@ mod fakes;
 #[cfg(test)]
 mod journals;
 #[cfg(test)]
+mod kept;
+#[cfg(test)]
 mod ports;
 #[cfg(test)]
 mod ran;

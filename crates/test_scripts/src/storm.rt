@@ -2,17 +2,18 @@
 ghost use Rattle.std.specs.Prelude.{◌≡◌};
 
 use crate::each;
+use crate::kept::{are_entries_of, kept_by};
 use crate::replays::replays;
 use crate::storm_lines::{CALLERS, Caller, TURNS};
-use scm_book::Reply;
+use scm_book::{Call, Reply};
 use scm_expand::{Gate, run_workers};
 use scm_sessions::read_line;
 use scm_shared::{Audit, BookNaming, BookToken, Pass, SharedBook};
 use std::alloc::{AllocError, Global};
 use std::marker::Brand;
 use std::process::Abort;
-use std::sync::Wait;
 use std::sync::atomic::{AtomicU64, Ordering};
+use std::sync::{Arc, Wait};
 use std::test::Fail;
 use std::thread::Threads;
 use std::time::{Clock, Duration, Instant};
@@ -173,12 +174,23 @@ fn call_and_stop<B: BookNaming + Send + Sync, R: Threads + Wait + Abort + Sync>(
     passes
 }
 
-/// The audit after all callers and workers have ended, how many calls were answered, and how often workers came to the gate.
+/// What is left of a storm after all callers and workers have ended.
+#[derive(Drop)]
+struct Ended {
+    audit: Audit,
+    /// What each pass kept.
+    kept: Vec<Vec<(Arc<Call>, Reply)>>,
+    /// How many calls were answered.
+    answered: u64,
+    /// How often workers came to the gate.
+    came: u64,
+}
+
 fn storm<B: BookNaming + Send + Sync, R: Threads + Wait + Abort + Sync>(
     rt: &R,
     alloc: Global,
     token: BookToken,
-) -> Result<(Audit, u64, u64), Fail>
+) -> Result<Ended, Fail>
     requires table { token.table.shared.table_id ≡ B.table }
     requires made { (token.made.name ≡ B.made) × (token.made.parts ≡ B.seats) }
     requires totals { (token.totals.taken.name ≡ B.taken) × (token.totals.delivered.name ≡ B.delivered) × (token.totals.taken.parts ≡ B.parts) }
@@ -191,8 +203,13 @@ fn storm<B: BookNaming + Send + Sync, R: Threads + Wait + Abort + Sync>(
         || call_and_stop(rt, alloc, &shared, &gusts, passes),
         || run_workers::<B, SharedBook<B>, Gusts, R>(rt, alloc, &shared, &gusts, WORKERS),
     );
-    let (answered, came) = (gusts.answered.into_inner(), gusts.came.into_inner());
-    Ok((shared.audit(passes?, tallies?), answered, came))
+    let passes = passes?;
+    Ok(Ended {
+        kept: kept_by(alloc, passes.as_slice())?,
+        audit: shared.audit(passes, tallies?),
+        answered: gusts.answered.into_inner(),
+        came: gusts.came.into_inner(),
+    })
 }
 
 /// Stops the test where the audit isn't what it must be after so many calls.
@@ -218,11 +235,15 @@ fn storm_passes(rt: HostRuntime) -> Result<(), Fail> {
     let began = Instant::now(&rt)?;
     let (mut delivered, mut came) = (0u64, 0u64);
     for _ in 0..STORMS {
-        let (audit, answered, times) = storm::<Brand, _>(&rt, alloc, BookToken::new(alloc)?)?;
-        delivered = delivered.saturating_add(audit.book.results().delivered());
-        came = came.saturating_add(times);
-        let checked = check_audit(&rt, alloc, &audit, answered as usize);
-        drop(audit);
+        let ended = storm::<Brand, _>(&rt, alloc, BookToken::new(alloc)?)?;
+        delivered = delivered.saturating_add(ended.audit.book.results().delivered());
+        came = came.saturating_add(ended.came);
+        let checked = check_audit(&rt, alloc, &ended.audit, ended.answered as usize);
+        let journal = ended.audit.book.entries();
+        for (session, kept) in ended.kept.iter().enumerate() {
+            assert!(rt; are_entries_of(session, kept, journal));
+        }
+        drop(ended);
         checked?;
         if !has_time(&rt, &began)? {
             break;

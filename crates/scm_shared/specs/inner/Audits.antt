@@ -1,13 +1,9 @@
--- What an audit compares: the calls that passes kept with the journal.
+-- What an audit tells: whether the calls that passes kept are the journal's.
 use Rattle.std.specs.Prelude.{◌≡◌, List, Bool, true, ◌==◌, All}
 use Rattle.std.specs.List.{list_all, list_any}
-use Rattle.scm_book.specs.Machine.{CallData, ReplyData, EntryData}
+use Rattle.scm_book.specs.Machine.{EntryData}
 use Rattle.scm_book.specs.inner.Callers.{calls_by}
 use Rattle.scm_shared.specs.Passes.{Known}
-
--- the call and the reply of an entry
-abbrev pub pair_of : EntryData → CallData × ReplyData
-pair_of entry = (entry.call, entry.reply)
 
 -- each session with an entry has its pass among these
 abbrev pub covers : List Known → List EntryData → Bool
