@@ -38,6 +38,7 @@ impl<B: BookNaming> BookLoan<B> {
     {
         let BookLoan { lent, of: _ } = self;
         locked.book.take_back(lent);
+        locked.returns = locked.returns.wrapping_add(1);
         CameBack { of: PhantomData }
     }
 }
@@ -46,6 +47,9 @@ impl<B: BookNaming> BookLoan<B> {
 pub(crate) struct CameBack<B: BookNaming> {
     of: PhantomData<B>,
 }
+
+/// How often a new bell rang.
+const RANG_AT_FIRST: u64 = 1;
 
 /// The bell at which those wait who want a set of the book that is lent. It stands beside the lock.
 #[derive(Drop)]
@@ -68,9 +72,8 @@ impl<B: BookNaming> SetBell<B> {
         self.bell.ring();
     }
 
-    /// Waits until a set came back after `seen` was given, and gives the next one to wait with. With 0, which is never given, it
-    /// waits for nothing. It may come back earlier.
-    pub(crate) fn wait<R: Wait>(&self, rt: &R, seen: u64) -> u64 {
-        self.bell.wait(rt, seen)
+    /// Waits until it was told of more sets than had come back, by a look under the lock. It may come back earlier.
+    pub(crate) fn wait<R: Wait>(&self, rt: &R, returns: u64) {
+        let _rang = self.bell.wait(rt, returns.wrapping_add(RANG_AT_FIRST));
     }
 }

@@ -28,14 +28,15 @@ use std::marker::{Model, PhantomData};
 use std::sync::ledger;
 use std::sync::ledger::{Blank, Share};
 
-/// The book, with its seat, which knows the journal; how many passes entered; and the totals of tasks and outcomes, which are
-/// those of the book.
+/// The book, with its seat, which knows the journal; how many passes entered; the totals of tasks and outcomes, which are those
+/// of the book; and how many sets came back that it had lent.
 #[derive(Drop)]
 pub(crate) struct Locked<B: BookNaming> {
     pub(crate) book: Book,
     pub(crate) entered: u16,
     pub(crate) seat: Seat<Entry, View>,
     pub(crate) totals: Totals<B>,
+    pub(crate) returns: u64,
     pub(crate) made: ledger::Book<Made<B>>,
     // What isn't issued yet: the shares of passes that are still to enter.
     pub(crate) unissued: Share<Made<B>>,
@@ -85,6 +86,7 @@ impl<B: BookNaming> Locked<B> {
             entered: 0,
             seat,
             totals: Totals::new(totals),
+            returns: 0,
             made,
             unissued,
         }
@@ -153,23 +155,24 @@ impl<B: BookNaming> Locked<B> {
     }
 
     /// Makes the call where it is ready. Else it comes back: with its loan where it asks a question that is to be searched
-    /// without the lock first, with none where it has to wait for a set.
+    /// without the lock first; where it has to wait for a set, with how many came back so far.
     pub(crate) fn call_if_ready(
         &mut self,
         length_word: &LengthWord<B>,
         pass: &mut Pass<B>,
         call: Call,
-    ) -> Result<Reply, (Call, Option<BookLoan<B>>)>
+    ) -> Result<Reply, (Call, Result<BookLoan<B>, u64>)>
         ensures answered { IfOk result (λ reply. IsPassCall pass.old (call_data call) (reply_data reply) pass.new) }
         ensures called { IfOk result (λ reply. IsLockedCall self.old.book pass.old.number (call_data call) (reply_data reply) self.new.book) }
-        ensures lent { IfErr result (λ lent. (call_data lent.0 ≡ call_data call) × IsLending self.old.book (call_data call) (option_map (λ loan. loan.lent) lent.1) self.new.book) }
+        ensures asked { IfErr result (λ asked. call_data asked.0 ≡ call_data call) }
+        ensures lent { IfErr result (λ asked. MatchResult asked.1 (λ loan. IsLending self.old.book (call_data call) (Some loan.lent) self.new.book) (λ _. IsLending self.old.book (call_data call) None self.new.book)) }
         ensures pass { IfErr result (λ _. pass.new ≡ pass.old) }
         ensures counts { KeepsCounts self.old self.new }
     {
         match self.book.plan(&call) {
             Plan::Ready(outlook) => Ok(self.call(length_word, pass, call, outlook)),
-            Plan::Waits => Err((call, None)),
-            Plan::Long(lent) => Err((call, Some(BookLoan::new(lent)))),
+            Plan::Waits => Err((call, Err(self.returns))),
+            Plan::Long(lent) => Err((call, Ok(BookLoan::new(lent)))),
         }
     }
 
