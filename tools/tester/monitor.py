@@ -1,4 +1,5 @@
 """The monitor as the tools beside it use it, and how such a tool ends."""
+import errno
 import os
 import subprocess
 import sys
@@ -19,6 +20,10 @@ class Stop(Exception):
 
 def run_tool(name, main):
     """Runs a tool's main function; what stops it is said in one line."""
+    if sys.stdout is None:  # it was closed
+        print(f"{name}: the output can't be written: {os.strerror(errno.EBADF)}", file=sys.stderr)
+        sys.exit(NOT_WRITTEN)
+    sys.stdout.reconfigure(encoding="utf-8", errors="surrogateescape")  # as a page says; and a path may have any bytes
     try:
         main()
         sys.stdout.flush()
@@ -44,6 +49,8 @@ def add_program(parser):
 
 def read_script(path):
     """The bytes of a script, `-` for standard input."""
+    if path == "-" and sys.stdin is None:
+        raise Stop(f"{named(path)} is closed")
     try:
         if path == "-":
             return sys.stdin.buffer.read()
