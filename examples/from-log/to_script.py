@@ -3,7 +3,7 @@
 import re
 import sys
 
-MOST_CELLS = 64  # of a trace
+MOST_CELLS, MOST_HARTS = 64, 32  # of a trace
 
 # An access has an address, what was stored or given ('data='), and what came back ('->').
 ACCESS = re.compile(r"hart (\d+): (\S+) .*addr=(\S+)(?: data=(\S+))?(?: -> (\S+))?")
@@ -36,6 +36,7 @@ def declare(address, width, line):
     return cell
 
 
+sys.stdin.reconfigure(errors="replace")  # what isn't an access may have any bytes
 for line in sys.stdin:
     found = ACCESS.search(line)
     if not found:
@@ -81,6 +82,8 @@ if len(cells) > MOST_CELLS:
 if not accesses:
     sys.exit(f"to_script: more than {MOST_CELLS} cells are accessed, each by one hart alone")
 harts = max(hart for hart, _ in accesses) + 1
+if harts > MOST_HARTS:
+    sys.exit(f"to_script: hart {harts - 1}: a trace has processes 0 to {MOST_HARTS - 1}, so number your harts so")
 print(f"log open sim {harts} 1000000", *(f"{cell}:{width}=0" for cell, width in sorted(cells.items())))
 for hart in range(harts):
     print(f"h{hart} claim sim {hart}")
