@@ -25,6 +25,7 @@ from tester.progress import Progress
 from tester.runs import has_reply, lines_with_replies, runs_of
 
 WORST = 3
+MADE = (".scm", ".small.scm", ".html")  # of a log's name
 ORDER = ("inconsistent", "refused", "no script", "undecided", "consistent")
 STATUSES = {"refused": 4, "no script": 4, "inconsistent": 5, "undecided": 6}
 
@@ -112,6 +113,17 @@ def shrink(options, row):
     return f"{left} operations left in {row.name}.small.scm, drawn in {row.name}.html"
 
 
+def check_names(options, logs):
+    """Stops where a log and another one would become the same file, or a log would be written over."""
+    made = Counter(os.path.splitext(os.path.basename(log))[0] + ending for log in logs for ending in MADE)
+    if max(made.values()) > 1:
+        raise Stop(f"{options.logs}: several logs would become {made.most_common(1)[0][0]}")
+    if os.path.samefile(options.logs, options.out):
+        for log in logs:
+            if os.path.basename(log) in made:
+                raise Stop(f"{log} is a log, and would be written over: take another folder")
+
+
 def main():
     options = arguments()
     try:
@@ -121,9 +133,7 @@ def main():
         raise Stop(f"{fault.filename}: {fault.strerror}") from None
     if not logs:
         raise Stop(f"{options.logs}: no file is in it")
-    names = Counter(os.path.splitext(os.path.basename(log))[0] for log in logs)
-    if len(names) < len(logs):
-        raise Stop(f"{options.logs}: several logs would become {names.most_common(1)[0][0]}.scm")
+    check_names(options, logs)
     Monitor(options.program).replies(["a list"])  # it is built before several want it
     rows, counts = rows_of(options, logs)
     rows.sort(key=lambda row: (ORDER.index(row.verdict), row.operations, row.name))
