@@ -83,7 +83,8 @@ def recorded(run, question):
         elif call[0] == "do":
             lines[call[2]].append(line)
         elif call[0] == "back":
-            lines = [own[:len(sequence)] for own, sequence in zip(lines, trace.sequences)]
+            for own, sequence in zip(lines, trace.sequences):
+                del own[len(sequence):]
     number = question.number if question else run.lines[-1].number
     refused = [line for line in run.refused if line.number < number]
     whole = Recording(run.name, trace, lines, question, refused)
