@@ -163,6 +163,7 @@ function number(orders, boxes) {
   }
 }
 
+const namedBy = ({ start, end, by }) => [start, end, ...(by ? [by] : [])];
 const kindOf = ({ isWrong, rule, sign }) => (isWrong ? "wrong" : ["joined", "hidden"].includes(rule) || sign.endsWith("!") ? "joined" : "plain");
 
 function drawnOrder(order) {
@@ -206,7 +207,7 @@ function figureOf(picture, boxes, colours) {
   const whole = Math.max(right, ...across.map((x) => x + 2 * sizes.badge)) - left;
   const svg = (kind, high, ...children) => element("svg", { width: whole, height: high, viewBox: `${left} 0 ${whole} ${high}`, class: kind }, ...children);
   const middles = columns.map((lane, column) => [lane, (width + (picture.orders ? sizes.roomy : sizes.close)[1]) * column + width / 2]);
-  const named = new Set(orders.flatMap(({ start, end }) => [start, end]));
+  const named = new Set(orders.flatMap(namedBy));
   const isPale = (at, box) => (picture.orders ? !named.has(at) : picture.stuck ? box.index > picture.stuck[0].counts[box.lane] : false);
   return element(
     "div", { class: "lanes", tabindex: 0, role: "region", "aria-label": "Lanes" },
@@ -222,7 +223,7 @@ function figureOf(picture, boxes, colours) {
 
 // The cells' colours, first those of the operations that are named.
 function coloursOf(picture, boxes) {
-  const named = (picture.orders ?? []).flatMap(({ start, end }) => [start, end]);
+  const named = (picture.orders ?? []).flatMap(namedBy);
   const cells = [...new Set([...[...named, ...boxes.keys()].map((at) => boxes.get(at).operation.cell)])];
   return (cell) => (cells.indexOf(cell) < 24 ? `c${cells.indexOf(cell) % 8} s${Math.floor(cells.indexOf(cell) / 4) % 3}` : "c-other");
 }
@@ -263,12 +264,12 @@ function walkPanel(picture, steps, first, colours) {
 
 // Each operation of a schedule: where it is, its cell, what it leaves there, and which one it saw.
 function stepsData(picture, boxes) {
-  const last = {};
+  const last = new Map(); // a cell may be named as what each object has
   const cells = picture.cells.map(({ name }) => name);
   return stepsOf(picture.schedule).map((at) => {
     const { kind, cell, old, fresh } = boxes.get(at).operation;
-    const saw = kind === "W" ? "" : (last[cell] ?? "first");
-    if (kind !== "R") last[cell] = at;
+    const saw = kind === "W" ? "" : (last.get(cell) ?? "first");
+    if (kind !== "R") last.set(cell, at);
     return [at, cells.indexOf(cell), fresh ?? old, saw];
   });
 }
@@ -276,7 +277,7 @@ function stepsData(picture, boxes) {
 function explained(picture, boxes, colours) {
   if (picture.orders) {
     const cases = picture.orders.some(({ rule }) => rule === "assumed") ? " (within a case: in each where what it supposes is so)" : "";
-    const orders = picture.orders.map(({ start, end, by, rests }) => ({ ops: [start, end, ...(by ? [by] : [])], rests }));
+    const orders = picture.orders.map((order) => ({ ops: namedBy(order), rests: order.rests }));
     return { data: { orders }, words: `No interleaving explains it: each order of the list holds in every legal schedule${cases}, with those of the processes, and the last one can't.`, panel: element("ol", { class: "orders", start: 0 }, ...picture.orders.map(orderLine)) };
   }
   if (picture.stuck) {
@@ -285,7 +286,7 @@ function explained(picture, boxes, colours) {
   }
   if (!picture.schedule) return { data: {}, words: "Nothing is known of it within its budget: no schedule was proposed, and no short refutation was found.", panel: "" };
   const steps = stepsData(picture, boxes);
-  const first = picture.cells.map(({ name, first: held }) => picture.fixed[name] ?? held);
+  const first = picture.cells.map(({ name, first: held }) => (Object.hasOwn(picture.fixed, name) ? picture.fixed[name] : held));
   const fixed = Object.entries(picture.fixed).map(([cell, value]) => `${cell} = ${value}`);
   const unset = fixed.length > 0 ? ` What wasn't known at first must have been ${fixed.join(", ")}.` : "";
   return { data: { steps, first }, words: `The ${steps.length} operations stand in the order of a legal schedule: each read finds what was written last.${unset}`, panel: walkPanel(picture, steps, first, colours) };
