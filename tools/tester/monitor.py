@@ -20,7 +20,8 @@ class Stop(Exception):
 
 def run_tool(name, main):
     """Runs a tool's main function; what stops it is said in one line."""
-    if sys.stdout is None:  # it was closed
+    sys.stderr = sys.stderr or open(os.devnull, "w", encoding="utf-8")  # it was closed, and nothing of it belongs into the output
+    if sys.stdout is None:  # so was this
         print(f"{name}: the output can't be written: {os.strerror(errno.EBADF)}", file=sys.stderr)
         sys.exit(NOT_WRITTEN)
     sys.stdout.reconfigure(encoding="utf-8", errors="surrogateescape")  # as a page says; and a path may have any bytes
@@ -45,6 +46,11 @@ def run_tool(name, main):
 
 def add_program(parser):
     parser.add_argument("--program", metavar="PATH", default=os.path.join(TOP, "monitor"), help="the monitor (default: ./monitor, which builds it where it has to)")
+
+
+def parsed(parser):
+    """The words of the command line: a trace may stand behind an option, and behind `--` where its name begins with a hyphen."""
+    return parser.parse_args() if "--" in sys.argv else parser.parse_intermixed_args()
 
 
 def read_script(path):
