@@ -1,4 +1,4 @@
-//! That workers with nothing to do wait.
+//! That workers with nothing to do wait, and hear of what changes while they look.
 ghost use Rattle.std.specs.Prelude.{◌≡◌};
 
 use scm_expand::{Bell, FreeGate, Outcome, Task, TaskSource, run_workers};
@@ -14,12 +14,14 @@ use std::thread;
 use std::thread::Threads;
 use test_fixtures::MOST_TURNS;
 
-/// A source that has no tasks, and counts how often workers look for some and wait.
+/// A source that has no tasks, and counts how often workers look for some and wait. While they look for the first few times it
+/// changes.
 #[derive(Drop)]
 struct Empty<B: Naming> {
     alloc: Global,
     totals: Mutex<Totals<B>>,
     bell: Bell,
+    changes: u64,
     takings: AtomicU64,
     waits: AtomicU64,
 }
@@ -39,7 +41,9 @@ impl<B: Naming> TaskSource<B> for Empty<B> {
         _n: usize,
         _tally: &mut Tally<B>,
     ) -> Result<Vec<Task>, NoMemory> {
-        self.takings.fetch_add(1, Ordering::SeqCst);
+        if self.takings.fetch_add(1, Ordering::SeqCst) < self.changes {
+            self.bell.ring();
+        }
         Ok(Vec::new(self.alloc))
     }
 
@@ -67,8 +71,11 @@ fn linger(count: &AtomicU64) {
 
 /// Closes the source once its worker has nothing to do, and had time to look again and again.
 fn close_late<B: Naming>(source: &Empty<B>) {
+    let least = source.changes.saturating_add(2);
     for _ in 0..MOST_TURNS {
-        if source.waits.load(Ordering::SeqCst) >= 2 || source.takings.load(Ordering::SeqCst) >= 2 {
+        if source.waits.load(Ordering::SeqCst) >= least
+            || source.takings.load(Ordering::SeqCst) >= least
+        {
             break;
         }
         thread::yield_now();
@@ -77,11 +84,12 @@ fn close_late<B: Naming>(source: &Empty<B>) {
     source.bell.close();
 }
 
-/// How often a worker looked for tasks, and how often it waited.
+/// How often a worker looked for tasks, and how often it waited, beside so many changes.
 fn idle<B: Naming + Send + Sync, R: Threads + Wait + Abort + Sync>(
     rt: &R,
     alloc: Global,
     token: Token,
+    changes: u64,
 ) -> (u64, u64)
     requires taken { token.taken.name ≡ B.taken }
     requires delivered { token.delivered.name ≡ B.delivered }
@@ -91,6 +99,7 @@ fn idle<B: Naming + Send + Sync, R: Threads + Wait + Abort + Sync>(
         alloc,
         totals: Mutex::new(Totals::new(token)),
         bell: Bell::new(),
+        changes,
         takings: AtomicU64::new(0),
         waits: AtomicU64::new(0),
     };
@@ -105,8 +114,15 @@ fn idle<B: Naming + Send + Sync, R: Threads + Wait + Abort + Sync>(
 
 #[test]
 fn an_idle_worker_waits(rt: HostRuntime) -> Result<(), Fail> {
-    let (takings, waits) = idle::<Brand, _>(&rt, rt.alloc(), Token::new());
+    let (takings, waits) = idle::<Brand, _>(&rt, rt.alloc(), Token::new(), 0);
     assert!(rt; takings == 1);
     assert!(rt; waits < 100);
+    Ok(())
+}
+
+#[test]
+fn a_change_while_a_worker_looks_is_heard(rt: HostRuntime) -> Result<(), Fail> {
+    let (takings, waits) = idle::<Brand, _>(&rt, rt.alloc(), Token::new(), 1);
+    assert!(rt; takings == 2 && waits < 100);
     Ok(())
 }

@@ -6,6 +6,8 @@
 #[cfg(test)]
 mod again;
 #[cfg(test)]
+mod coming;
+#[cfg(test)]
 mod deliveries;
 #[cfg(test)]
 mod expand;

@@ -114,6 +114,18 @@ fn a_raised_budget_wants_work(rt: HostRuntime) {
     drop(book);
 }
 
+/// The raise comes while the set is lent, in which all is found that the budget allowed.
+#[test]
+fn a_budget_that_is_raised_meanwhile_wants_work(rt: HostRuntime) {
+    let mut book = forbidden_in(&rt, rt.alloc(), WITH_FEW);
+    let mut loan = lent(&rt, &mut book);
+    let _times = times_of_work(&mut loan);
+    play(&rt, rt.alloc(), &mut book, "raise t 5000");
+    book.take_back(loan);
+    assert!(rt; book.may_want_work());
+    drop(book);
+}
+
 /// Work may be wanted, and no question waits for a set.
 fn assert_wants_work(rt: &impl Abort, alloc: Global, book: &mut Book) {
     assert!(rt; book.may_want_work() && !awaits(rt, alloc, book, "ask t"));
