@@ -271,7 +271,7 @@ fn carried(book: &mut Book, call: &Call) -> Outlook
 }
 
 /// A known schedule of t is carried by the plan of a question, and answers it with no step.
-fn assert_carried(rt: &impl Abort, alloc: Global, book: &mut Book) {
+pub(crate) fn assert_carried(rt: &impl Abort, alloc: Global, book: &mut Book) {
     let ask = call_of(rt, alloc, "ask t");
     let outlook = carried(book, &ask);
     let is_known = matches!(outlook, Outlook::Known(_));

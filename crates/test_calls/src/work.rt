@@ -1,8 +1,8 @@
 //! Sets that are lent for work, and what is taken back of it.
 
 use crate::lending::{
-    FORBIDDEN, OPEN, SITUATIONS, WITH_FEW, assert_held, assert_spared, forbidden, forbidden_in,
-    report_stores,
+    FORBIDDEN, OPEN, SITUATIONS, WITH_FEW, assert_carried, assert_held, assert_spared, forbidden,
+    forbidden_in, report_stores,
 };
 use crate::words::{call_of, play, played};
 use scm_book::{Book, Loan, Plan};
@@ -80,6 +80,19 @@ fn work_spares_the_question(rt: HostRuntime) {
     assert_spared(&rt, &mut book);
     assert_raise_refused(&rt, rt.alloc(), &mut book);
     assert_wants_no_work(&rt, &mut book);
+    drop(book);
+}
+
+/// A schedule is looked for first. The order of the reports is none, since the load sees a store that is reported after it.
+#[test]
+fn work_finds_a_schedule(rt: HostRuntime) {
+    let mut book = played(&rt, rt.alloc(), OPEN);
+    play(&rt, rt.alloc(), &mut book, "do t 3 lw x 1");
+    report_stores(&rt, rt.alloc(), &mut book, 1);
+    let mut loan = lent(&rt, &mut book);
+    assert!(rt; loan.propose());
+    book.take_back(loan);
+    assert_carried(&rt, rt.alloc(), &mut book);
     drop(book);
 }
 
