@@ -68,6 +68,29 @@ fn a_question_leaves_work(rt: HostRuntime) -> Result<(), Fail> {
     Ok(())
 }
 
+/// How many changes there were before a call that is done, after it, and after a question.
+fn changes<B: BookNaming, R: Wait + Abort>(rt: &R, alloc: Global, token: BookToken) -> [u64; 3]
+    requires table { token.table.shared.table_id ≡ B.table }
+    requires made { (token.made.name ≡ B.made) × (token.made.parts ≡ B.seats) }
+    requires totals { (token.totals.taken.name ≡ B.taken) × (token.totals.delivered.name ≡ B.delivered) × (token.totals.taken.parts ≡ B.parts) }
+{
+    let shared = SharedBook::<B>::new(alloc, token);
+    let mut pass = entered(rt, &shared);
+    let before = shared.wait(rt, 0);
+    play_shared(rt, alloc, &shared, &mut pass, "open u 1 100 x");
+    let done = shared.wait(rt, 0);
+    play_shared(rt, alloc, &shared, &mut pass, "ask u => consistent");
+    [before, done, shared.wait(rt, 0)]
+}
+
+/// A call that changes something, and a question, wake who has nothing to do.
+#[test]
+fn calls_wake(rt: HostRuntime) -> Result<(), Fail> {
+    let [before, done, asked] = changes::<Brand, _>(&rt, rt.alloc(), BookToken::new(rt.alloc())?);
+    assert!(rt; before < done && done < asked);
+    Ok(())
+}
+
 /// Counts who comes, and remembers whether there were new tasks then: they are those of the start alone where the set is lent,
 /// and none where it was searched.
 #[derive(Drop)]
