@@ -64,7 +64,8 @@ public:
     checked(scm_report(&monitor_, session_, trace_, core, access, cells_[cell], value, 0));
   }
 
-  bool is_inconsistent() { return scm_ask(&monitor_, session_, trace_) == SCM_INCONSISTENT; }
+  // In the order of happening the first other verdict, also `undecided`, is of what went wrong.
+  bool is_explained() { return scm_ask(&monitor_, session_, trace_) == SCM_CONSISTENT; }
 };
 
 struct Store {
@@ -135,7 +136,7 @@ std::optional<unsigned> run(const Options &options, Monitor &monitor) {
       monitor.report(core, SCM_LW, cell, value);
       std::printf("%u: core %u: lw %s %u\n", step, core, CELLS[cell], value);
     }
-    if (monitor.is_inconsistent())
+    if (!monitor.is_explained())
       return step;
   }
   return std::nullopt;
