@@ -67,7 +67,7 @@ enum { SCM_RECORD_SHORTLY = 300 };
 #else
 enum { SCM_RECORD_SHORTLY = 30 };
 #endif
-/* Accesses of a thread that are looked through for one shortly after a store: without a counter all would be. */
+/* Accesses of a thread that are looked through for one shortly after a store: with a slow counter, or none, all would be. */
 enum { SCM_RECORD_SOON = 100 };
 
 enum {

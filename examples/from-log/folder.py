@@ -115,12 +115,12 @@ def shrink(options, row):
 
 def check_names(options, logs):
     """Stops where a log and another one would become the same file, or a log would be written over."""
-    made = Counter(os.path.splitext(os.path.basename(log))[0] + ending for log in logs for ending in MADE)
-    if max(made.values()) > 1:
-        raise Stop(f"{options.logs}: several logs would become {made.most_common(1)[0][0]}")
+    files = Counter(os.path.splitext(os.path.basename(log))[0] + ending for log in logs for ending in MADE)
+    if max(files.values()) > 1:
+        raise Stop(f"{options.logs}: several logs would become {files.most_common(1)[0][0]}")
     if os.path.samefile(options.logs, options.out):
         for log in logs:
-            if os.path.basename(log) in made:
+            if os.path.basename(log) in files:
                 raise Stop(f"{log} is a log, and would be written over: take another folder")
 
 

@@ -180,7 +180,6 @@ static void each_fault(void) {
 }
 
 static void each_fault_of_values(void) {
-  pthread_t other;
   scm_record_begin(1, 100);
   scm_plain_load(&data);
   expect(scm_record_begin(33, 10), SCM_RECORD_BAD_ROOM, "33 threads after a recording");
@@ -201,6 +200,9 @@ static void each_fault_of_values(void) {
   scm_record_begin(1, 100);
   scm_record_load(&data, 260, 0);
   expect(written(), SCM_RECORD_BAD_ADDRESS, "an access of 260 bytes");
+}
+
+static void each_fault_of_named_cells(void) {
   scm_record_only_named();
   scm_record_begin(1, 100);
   scm_plain_load(&many[0]);
@@ -214,6 +216,10 @@ static void each_fault_of_values(void) {
   scm_record_store(many, sizeof many, 0);
   scm_record_load(&many[SCM_RECORD_MOST_CELLS], sizeof *many, 0);
   expect(written(), SCM_RECORD_BAD_ADDRESS, "an access of 260 bytes whose last are a named cell");
+}
+
+static void too_many_accesses(void) {
+  pthread_t other;
   scm_record_begin(2, 600000);
   load_often(NULL);
   pthread_create(&other, NULL, load_often, NULL);
@@ -254,6 +260,8 @@ int main(void) {
   write_wrappers();
   each_fault();
   each_fault_of_values();
+  each_fault_of_named_cells();
+  too_many_accesses();
   write_long_ones();
   return faults != 0;
 }

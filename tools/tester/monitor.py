@@ -49,7 +49,7 @@ def add_program(parser):
 
 
 def parsed(parser):
-    """The words of the command line: a trace may stand behind an option, and behind `--` where its name begins with a hyphen."""
+    """The words of the command line: a trace may stand behind an option, and, with the script, behind `--` where its name begins with a hyphen."""
     return parser.parse_args() if "--" in sys.argv else parser.parse_intermixed_args()
 
 
