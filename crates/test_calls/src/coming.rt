@@ -33,12 +33,12 @@ fn work_once<B: BookNaming, G: Gate, R: Wait + Abort>(
     assert!(rt; is_lent);
 }
 
-/// The stores are reported, and searched by this question; then they are reported once more, which is work.
+/// The stores are reported, and searched by `why` or `ask`; then they are reported once more, which is work.
 fn work_after<B: BookNaming, R: Wait + Abort>(
     rt: &R,
     alloc: Global,
     token: BookToken,
-    question: &str,
+    asks_why: bool,
 ) -> Book
     requires table { token.table.shared.table_id ≡ B.table }
     requires made { (token.made.name ≡ B.made) × (token.made.parts ≡ B.seats) }
@@ -48,6 +48,11 @@ fn work_after<B: BookNaming, R: Wait + Abort>(
     let mut pass = entered(rt, &shared);
     play_shared(rt, alloc, &shared, &mut pass, NEVER_STORED);
     report_stores(rt, alloc, &shared, &mut pass, TIMES);
+    let question = if asks_why {
+        "why t => because 2601"
+    } else {
+        "ask t => inconsistent"
+    };
     play_shared(rt, alloc, &shared, &mut pass, question);
     report_stores(rt, alloc, &shared, &mut pass, 1);
     let mut tally = shared.tally(rt).expect(rt, "a tally");
@@ -59,9 +64,9 @@ fn work_after<B: BookNaming, R: Wait + Abort>(
 /// A set that was lent for a question is lent for work once its trace has grown.
 #[test]
 fn a_question_leaves_work(rt: HostRuntime) -> Result<(), Fail> {
-    for question in ["ask t => inconsistent", "why t => because 2601"] {
+    for asks_why in [false, true] {
         let token = BookToken::new(rt.alloc())?;
-        let book = work_after::<Brand, _>(&rt, rt.alloc(), token, question);
+        let book = work_after::<Brand, _>(&rt, rt.alloc(), token, asks_why);
         assert_found_beside(&rt, &book, (TIMES + 2) * (TIMES + 2));
         drop(book);
     }
