@@ -17,7 +17,8 @@ class Line:
 
     def __init__(self, number, text, reply):
         self.number, self.text, self.reply = number, text, reply
-        self.words = tuple(map(intern, text.decode("latin-1").split()))  # they are few, and lines are many
+        words = text.removesuffix(b"\r").decode("latin-1").replace("\t", " ").split(" ")
+        self.words = tuple(map(intern, filter(None, words)))  # they are few, and lines are many
 
     @property
     def is_refused(self):
