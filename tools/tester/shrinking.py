@@ -68,8 +68,11 @@ class Judge:
 
     def orders(self, recording):
         """The orders of a short refutation, [] where there is another one, None where the trace isn't found inconsistent."""
+        verdict = self.verdict(recording)
+        if verdict == "consistent":
+            return None  # orders would be looked for in vain, in a long trace for a minute
         found = orders_of(recording, *recording.ask(self.monitor, "cycle"))
-        return found or ([] if self.verdict(recording) == "inconsistent" else None)
+        return found or ([] if verdict == "inconsistent" else None)
 
     def verdict(self, recording):
         return recording.ask(self.monitor, "ask", budget=self.budget)[0].partition(" ")[0]
@@ -103,7 +106,7 @@ def with_readers(recording, gone):
 
     def read_by(at):
         kind, cell, _, new = recording.operation(at)
-        return [] if kind == "R" else readers.get((cell, new), [])
+        return [] if kind == "R" else readers.pop((cell, new), [])  # once is enough: they all come with the first
     return closed(gone, read_by)
 
 
@@ -117,7 +120,7 @@ def with_writers(recording, kept):
 
     def written_by(at):
         kind, cell, old, _ = recording.operation(at)
-        return [] if kind == "W" else writers.get((cell, old), [])
+        return [] if kind == "W" else writers.pop((cell, old), [])  # once is enough: they all come with the first
     return closed(kept, written_by)
 
 
