@@ -12,7 +12,7 @@ REPORTS = 1_000_000
 BUDGET = 1_000_000
 SECONDS = 60  # after this a question is given up
 REPEATS = 3  # the best of so many runs counts
-TURNS = 9  # runs of two programs by turns
+TURNS = 15  # runs of two programs by turns
 STORES = 9  # of each writer
 WRITERS = range(1, 7)  # 10, 100, .. 1,000,000 situations
 ASKED = 50  # questions where many situations are held
@@ -52,7 +52,7 @@ def best(program, script, seconds=None):
 
 
 def usage(programs, lines):
-    """Of each of these programs with words the least user seconds of some runs, by turns, and its memory in MB. The figure of a
+    """Of each of these programs with words, run by turns, the user seconds of each run and its memory in MB. The figure of a
     child is never below what its parent had, so nothing is kept here."""
     runs = [[] for _ in programs]
     with tempfile.TemporaryFile() as source:
@@ -66,7 +66,7 @@ def usage(programs, lines):
                 if status != 0:
                     sys.exit(f"bench: the program ended with status {status}")
                 ran.append((used.ru_utime, used.ru_maxrss / 1024))
-    return [min(ran) for ran in runs]
+    return runs
 
 
 def script_of(lines):
@@ -214,11 +214,13 @@ def lists():
 
 def measure_default(program):
     """What two workers cost who have nothing to do."""
-    print("\nthe default beside --workers 0: user seconds, times; MB, times")
+    print("\nthe default beside --workers 0: least user seconds, times; MB, times; times in the middle of the pairs")
     for title, lines in (("reports", reports), ("lists of 256 sessions", lists)):
-        (seconds, memory), (alone, less) = usage([[program], [program, "--workers", "0"]], lines())
-        times = f"{seconds:>7.2f} {alone:>7.2f} {seconds / alone:>6.2f} {memory:>7.0f} {less:>7.0f} {memory / less:>6.2f}"
-        print(f"a million {title:<24}{times}")
+        ran, ran_alone = usage([[program], [program, "--workers", "0"]], lines())
+        (seconds, memory), (alone, less) = min(ran), min(ran_alone)
+        times = sorted(one / other for (one, _), (other, _) in zip(ran, ran_alone))
+        told = f"{seconds:>7.2f} {alone:>7.2f} {seconds / alone:>6.2f} {memory:>7.0f} {less:>7.0f} {memory / less:>6.2f}"
+        print(f"a million {title:<24}{told} {times[len(times) // 2]:>6.2f}")
     searched = best([program], script_of(forbidden(WRITERS[-1])), SECONDS)
     again = best([program], script_of(held(WRITERS[-1], ["a ask t"])), SECONDS)
     if searched and again:

@@ -1,19 +1,15 @@
 -- What each way out of a call is for a book.
-use Rattle.std.proofs.Common.{◌≡◌, ℕ, ◌+◌, ◌<◌, ◌^◌, Bool, true, false, List, [], ◌∷◌, ◌++◌, length, map, Option, None, Some, IfSome, IsSomeAnd, MatchOption, refl, sym, ap, ◌∙◌, subst, inl, inr, arith}
+use Rattle.std.proofs.Common.{◌≡◌, ℕ, ◌+◌, ◌<◌, ◌^◌, Bool, true, false, List, [], ◌∷◌, ◌++◌, length, map, refl, sym, ap, ◌∙◌, subst, inl, inr, arith}
 use Rattle.std.proofs.lemmas.List.{length-append, map-append}
 use Rattle.std.proofs.lemmas.Bool.{leb-false}
 use Rattle.scm_sequences.specs.declared.refusal.Refusal.TheVariants.{NoMemory, JournalFull}
 use Rattle.scm_sequences.specs.declared.limits.TheConstants.{MOST_ENTRIES}
-use Rattle.std.specs.Arc.{arc_value}
-use Rattle.std.specs.Global.{Global}
-use Rattle.std.specs.declared.sync.Arc.{Arc}
-use Rattle.scm_book.specs.Machine.{CallData, ReplyData, EntryData, KeptCall, refused, call_data, reply_data, Machine, empty_machine, IsStep, IsStepOrNoMemory}
-use Rattle.scm_book.specs.declared.call.Call.{Call}
+use Rattle.scm_book.specs.Machine.{CallData, ReplyData, EntryData, refused, Machine, empty_machine, IsStep, IsStepOrNoMemory}
 use Rattle.scm_book.specs.inner.Changes.{tells_of_change}
 use Rattle.scm_results.specs.declared.results.Results.{Results}
 use Rattle.scm_results.specs.Totals.{capped}
 use Rattle.scm_book.specs.inner.Sets.{KeptTrace, machine_in, sets_in, LeavesSets}
-use Rattle.scm_book.specs.Journal.{Answered, IsRun, BookState, IsUnchanged, IsLegalHistory, AreOfEntry, IsCall, is_full, makes_entry, entered, answered}
+use Rattle.scm_book.specs.Journal.{Answered, IsRun, BookState, IsUnchanged, IsLegalHistory, IsCall, is_full, makes_entry, entered, answered}
 use Rattle.scm_book.proofs.Counting.{AreNumbered-entered}
 use Rattle.scm_book.specs.laws.ReplyLaws.{IsStep-enters}
 use Rattle.scm_book.proofs.Leaving.{leaves_idle}
@@ -127,16 +123,6 @@ module _ (traces : List (List ℕ × KeptTrace)) (entries : List EntryData) (res
 pub machine-no_entry : (old new : Machine) (session : ℕ) (call : CallData) (reply : ReplyData) → IsStepOrNoMemory old session call reply new → makes_entry reply ≡ false → new ≡ old
 machine-no_entry old new session call reply (inl step) none = let no : true ≡ false = sym (IsStep-enters old new session call reply step) ∙ none in cc
 machine-no_entry old new session call reply (inr memory) none = memory.1
-
--- what is kept of an entry that was made is equal to it
-pub kept-of_entry : (is_kept : Bool) (call : Call) (shared : Option (Arc Call Global)) (given : Option KeptCall) (reply : ReplyData)
-    → MatchOption shared (is_kept ≡ false) (λ owner. (is_kept ≡ true) × (arc_value owner ≡ call))
-    → IfSome shared (λ owner. IsSomeAnd given (λ kept. (arc_value kept.0 ≡ arc_value owner) × (reply_data kept.1 ≡ reply)))
-    → makes_entry reply ≡ true → is_kept ≡ true
-    → MatchOption given (makes_entry reply ≡ false) (λ kept. AreOfEntry (call_data call) reply (call_data (arc_value kept.0)) (reply_data kept.1))
-kept-of_entry is_kept call None given reply owned are makes wanted = let no : true ≡ false = sym wanted ∙ owned in cc
-kept-of_entry is_kept call (Some owner) (Some kept) reply owned are makes wanted = record { makes = makes; same_call = ap call_data (are.0 ∙ owned.1); same_reply = are.1 }
-kept-of_entry is_kept call (Some owner) None reply owned are makes wanted = absurd are
 
 -- a reply that couldn't be copied tells of no change
 pub untold : (reply : ReplyData) (copied : Bool) → (tells_of_change reply ≡ true → copied ≡ true) → copied ≡ false → tells_of_change reply ≡ false

@@ -4,7 +4,6 @@ use Rattle.std.specs.List.{sum_by}
 use Rattle.std.proofs.lemmas.Bool.{eqb-true, eqb-false}
 use Rattle.std.proofs.lemmas.List.{get_or-set_same, get_or-set_other, get_or_default, map-append}
 use Rattle.std.proofs.lemmas.List.Sums.{sum_by-append}
-use Rattle.std.specs.Arc.{arc_value}
 use Rattle.scm_book.specs.declared.entry.Entry.{Entry}
 use Rattle.scm_book.specs.Machine.{CallData, ReplyData, EntryData, call_data, reply_data, entry_data}
 use Rattle.scm_book.specs.Journal.{count_of, entered, AreNumbered}
@@ -66,7 +65,7 @@ counter_reads counts entries place session number each same within reads =
 
 -- the entries with a new one last
 pub entered-pushed : (items new : List Entry) (entry : Entry) → new ≡ items ++ entry ∷ [] → entry.number ≡ count_of entry.session (map entry_data items)
-    → map entry_data new ≡ entered (map entry_data items) entry.session (call_data (arc_value entry.call)) (reply_data entry.reply)
+    → map entry_data new ≡ entered (map entry_data items) entry.session (call_data entry.call) (reply_data entry.reply)
 entered-pushed items new entry pushed numbered =
     ap (map entry_data) pushed ∙ map-append entry_data items (entry ∷ [])
-    ∙ ap (λ n. map entry_data items ++ record { session = entry.session; number = n; call = call_data (arc_value entry.call); reply = reply_data entry.reply } ∷ []) numbered
+    ∙ ap (λ n. map entry_data items ++ record { session = entry.session; number = n; call = call_data entry.call; reply = reply_data entry.reply } ∷ []) numbered

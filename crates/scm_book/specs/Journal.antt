@@ -1,13 +1,12 @@
 -- Runs of the machine, and the journal of a book: each call and its reply, but for those refused for want of memory or since the
 -- journal was full. It is a legal history: a run from the empty machine.
-use Rattle.std.specs.Prelude.{ℕ, ◌≡◌, List, [], ◌∷◌, ◌+◌, ◌≤◌, ◌↔◌, ⊤, ◌++◌, length, map, Bool, true, false, nat_le, ◌==◌, count_by, Option, MatchOption}
-use Rattle.scm_book.specs.Machine.{CallData, ReplyData, Machine, IsStep, refused, EntryData, KeptCall, kept_data, reply_data, empty_machine}
+use Rattle.std.specs.Prelude.{ℕ, ◌≡◌, List, [], ◌∷◌, ◌+◌, ◌≤◌, ◌↔◌, ⊤, ◌++◌, length, map, Bool, true, false, nat_le, ◌==◌, count_by}
+use Rattle.scm_book.specs.Machine.{CallData, ReplyData, Machine, IsStep, refused, EntryData, empty_machine}
 use Rattle.scm_sequences.specs.declared.refusal.Refusal.TheVariants.{JournalFull, NoMemory}
 use Rattle.scm_sequences.specs.declared.limits.TheConstants.{MOST_ENTRIES}
 use Rattle.scm_results.specs.declared.results.Results.{Results}
 use Rattle.scm_results.specs.Totals.{capped}
 use Rattle.scm_reach.specs.Kept.{Kept}
-use Rattle.scm_book.specs.declared.reply.Reply.{Reply}
 use Rattle.scm_book.specs.inner.Sets.{LeavesSets}
 
 -- ==== a run of the machine: steps, each from where the one before ended.
@@ -80,17 +79,6 @@ abbrev pub makes_entry : ReplyData → Bool
 makes_entry (refused JournalFull) = false
 makes_entry (refused NoMemory) = false
 makes_entry reply = true
-
--- a call and a reply that are equal to those of an entry that was made
-pub record AreOfEntry (call : CallData) (reply : ReplyData) (kept_call : CallData) (kept_reply : ReplyData) : Type 0 where
-  pub makes : makes_entry reply ≡ true
-  pub same_call : kept_call ≡ call
-  pub same_reply : kept_reply ≡ reply
-
--- what is given beside the reply to keep: call and reply where they make an entry, else nothing
-abbrev pub GivesKept : CallData → Reply → Option KeptCall → Type 0
-GivesKept call reply given =
-    MatchOption given (makes_entry (reply_data reply) ≡ false) (λ kept. AreOfEntry call (reply_data reply) (kept_data kept).0 (kept_data kept).1)
 
 -- a session's call with this reply leads from old to new. It is refused for a full journal exactly where the journal is
 -- full. A reply that makes an entry is that of the machine, and this call with its reply stands last in the journal; with

@@ -2,8 +2,6 @@
 -- It holds the open traces in the order of their opening, and nothing else. This project's profile.
 use Rattle.std.specs.Prelude.{ℕ, List, Option, Result, Ok, Err, [], ◌∷◌, map, None, Some, if◌then◌else◌, replicate, slice_get, length, is_some, is_none, Bool, true, not, ◌&&◌, ◌||◌, nat_eq, nat_le, nat_lt, slice_index_or, ◌≡◌, ⊤, reverse, ◌≢◌, ◌⊎◌, ◌++◌, slice_set, IsSomeAnd, IsOkAnd}
 use Rattle.std.specs.Arc.{arc_value}
-use Rattle.std.specs.Global.{Global}
-use Rattle.std.specs.declared.sync.Arc.{Arc}
 use Rattle.scm_sequences.specs.declared.refusal.Refusal.{Refusal}
 use Rattle.scm_lowering.specs.declared.access.Access.{Access}
 use Rattle.scm_frontier.specs.Situations.{Situated, HasMoreThan}
@@ -114,19 +112,11 @@ abbrev pub answer_data : Result Reply Refusal → ReplyData
 answer_data (Ok reply) = reply_data reply
 answer_data (Err refusal) = refused refusal
 
--- a call as it is kept beside its entry, which shares it, with its reply
-abbrev pub KeptCall : Type 0
-KeptCall = Arc Call Global × Reply
-
--- both as plain data
-abbrev pub kept_data : KeptCall → CallData × ReplyData
-kept_data kept = (call_data (arc_value kept.0), reply_data kept.1)
-
 abbrev pub entry_data : Entry → EntryData
 entry_data entry = record {
   session = entry.session;
   number = entry.number;
-  call = call_data (arc_value entry.call);
+  call = call_data entry.call;
   reply = reply_data entry.reply;
 }
 

@@ -1,6 +1,5 @@
 //! The book of open traces.
-ghost use Rattle.std.specs.Prelude.{◌≡◌, ◌≢◌, ◌↔◌, ◌+◌, ◌-◌, [], false, map, None, Some, true, is_ok, IsTrue, IfOk, IfSome, IsSomeAnd, MatchResult};
-ghost use Rattle.std.specs.Arc.{arc_value};
+ghost use Rattle.std.specs.Prelude.{◌≡◌, ◌≢◌, ◌↔◌, ◌+◌, ◌-◌, [], false, map, None, Some, true, IsTrue, MatchResult};
 ghost use Rattle.scm_book.specs.Machine.{call_data, reply_data, entry_data, refused, empty_machine};
 ghost use Rattle.scm_sequences.specs.declared.refusal.Refusal.TheVariants.{BadLine, TooManySessions};
 ghost use Rattle.scm_book.specs.inner.Sets.{HasRoom, HasRoomFor, HoldsFor, LeavesSets};
@@ -9,7 +8,7 @@ ghost use Rattle.scm_book.specs.inner.Workers.{IsTaking, IsDelivery, OffersNothi
 ghost use Rattle.scm_book.specs.inner.Loans.{IsLending, IsLendingForWork, IsTakingBack};
 ghost use Rattle.scm_book.specs.inner.Plans.{IsKnown, known_reply, reply_in, loan_in};
 ghost use Rattle.scm_book.specs.inner.Changes.{tells_of_change};
-ghost use Rattle.scm_book.specs.Journal.{count_of as count_in, GivesKept, IsCall, IsLegalBook};
+ghost use Rattle.scm_book.specs.Journal.{count_of as count_in, IsCall, IsLegalBook};
 
 mod calls;
 
@@ -24,7 +23,6 @@ use scm_results::Results;
 use scm_sequences::{NoMemory, Refusal};
 use std::alloc::Global;
 use std::marker::Model;
-use std::sync::Arc;
 
 /// The open traces, with a journal of the calls that were answered.
 ///
@@ -148,7 +146,7 @@ impl Book {
     }
 
     /// What is to be done before a call is made. Known schedules of what a question is about are judged here, once: a legal
-    /// one is the reply, to be handed to `call_kept` before anything changes. Else a question waits while its set is lent.
+    /// one is the reply, to be handed to `call_planned` before anything changes. Else a question waits while its set is lent.
     /// Else, where its answer is likely to be near, the plan says so; where not, it is lent, to be searched with no book at hand,
     /// with the set that is kept for its trace; the start alone stays in its place. With no loan everything is as it was, also
     /// where memory is refused.
@@ -208,84 +206,49 @@ impl Book {
         ensures sessions { reply_data result ≢ refused TooManySessions }
         ensures legal { IsLegalBook self.new }
     {
-        let mut steps = self.traces.new_counter(&call);
-        let (reply, kept) = self.make(session, call, Outlook::Unknown, false, &mut steps);
-        drop(kept);
-        reply
+        self.call_planned(session, call, Outlook::Unknown)
     }
 
-    /// Makes a call of a session, and where that makes an entry gives the call and the reply too, whose long parts the entry
-    /// shares. Where there is no memory for the call it is refused, and nothing changes but what a question finds out.
-    /// Where its plan carries a reply, that is the answer.
-    pub fn call_kept(
-        &mut self,
-        session: u16,
-        call: Call,
-        outlook: Outlook,
-    ) -> (Reply, Option<(Arc<Call>, Reply)>)
+    /// Makes a call of a session. Where its plan carries a reply, that is the answer. Where there is no memory for the call it
+    /// is refused, and nothing changes but what a question finds out.
+    pub fn call_planned(&mut self, session: u16, call: Call, outlook: Outlook) -> Reply
         requires { IsKnown self.old.machine (call_data call) (known_reply outlook) }
-        ensures called { IsCall self.old session (call_data call) (reply_data result.0) self.new }
-        ensures kept { GivesKept (call_data call) result.0 result.1 }
-        ensures machine { tells_of_change (reply_data result.0) ≡ false → self.new.machine ≡ self.old.machine }
-        ensures good { reply_data result.0 ≢ refused BadLine }
-        ensures sessions { reply_data result.0 ≢ refused TooManySessions }
+        ensures called { IsCall self.old session (call_data call) (reply_data result) self.new }
+        ensures kept { tells_of_change (reply_data result) ≡ false → self.new.machine ≡ self.old.machine }
+        ensures good { reply_data result ≢ refused BadLine }
+        ensures sessions { reply_data result ≢ refused TooManySessions }
         ensures legal { IsLegalBook self.new }
     {
         let mut steps = self.traces.new_counter(&call);
-        self.make(session, call, outlook, true, &mut steps)
+        self.make(session, call, outlook, &mut steps)
     }
 
-    /// Makes a call of a session, unless its reply is known, and counts the steps of a question. Where the call `is_kept` and
-    /// makes an entry, it comes back beside the reply, with the long parts of both shared.
-    fn make(
-        &mut self,
-        session: u16,
-        call: Call,
-        outlook: Outlook,
-        is_kept: bool,
-        steps: &mut Steps,
-    ) -> (Reply, Option<(Arc<Call>, Reply)>)
+    /// Makes a call of a session, unless its reply is known, and counts the steps of a question.
+    fn make(&mut self, session: u16, call: Call, outlook: Outlook, steps: &mut Steps) -> Reply
         requires room { HasRoom self.old.machine (call_data call) steps.old }
         requires known { IsKnown self.old.machine (call_data call) (known_reply outlook) }
-        ensures called { IsCall self.old session (call_data call) (reply_data result.0) self.new }
-        ensures kept { is_kept ≡ true → GivesKept (call_data call) result.0 result.1 }
-        ensures machine { tells_of_change (reply_data result.0) ≡ false → self.new.machine ≡ self.old.machine }
-        ensures sets { LeavesSets self.old.machine self.old.sets (call_data call) (reply_data result.0) steps.old steps.new self.new.sets }
+        ensures called { IsCall self.old session (call_data call) (reply_data result) self.new }
+        ensures machine { tells_of_change (reply_data result) ≡ false → self.new.machine ≡ self.old.machine }
+        ensures sets { LeavesSets self.old.machine self.old.sets (call_data call) (reply_data result) steps.old steps.new self.new.sets }
         ensures counted { self.new.steps ≡ capped (self.old.steps + (steps.new - steps.old)) }
         ensures legal { IsLegalBook self.new }
     {
         if self.journal.is_full() {
-            return (Reply::Refused(Refusal::JournalFull), None);
+            return Reply::Refused(Refusal::JournalFull);
         }
-        let Ok((call, shared)) = self.journal.make_room(session, call, is_kept) else {
-            return (Reply::Refused(Refusal::NoMemory), None);
-        };
+        if self.journal.make_room(session).is_err() {
+            return Reply::Refused(Refusal::NoMemory);
+        }
         let before = steps.made();
         let reply = self.traces.call(session, &call, outlook, steps);
         self.steps = self.steps.saturating_add(steps.made() - before);
         if !reply.makes_entry() {
-            return (reply, None);
+            return reply;
         }
-        let Ok((entered, kept)) = copies(&reply, shared) else {
-            return (Reply::Refused(Refusal::NoMemory), None);
+        let Ok(entered) = reply.copy() else {
+            return Reply::Refused(Refusal::NoMemory);
         };
         self.journal.enter(session, call, entered);
-        (reply, kept)
+        reply
     }
-}
-
-/// The reply once more for the journal, and once beside the call where one is given.
-fn copies(
-    reply: &Reply,
-    call: Option<Arc<Call>>,
-) -> Result<(Reply, Option<(Arc<Call>, Reply)>), NoMemory>
-    ensures entered { IfOk result (λ made. reply_data made.0 ≡ reply_data reply.now) }
-    ensures kept { IfOk result (λ made. IfSome call (λ owner. IsSomeAnd made.1 (λ k. (arc_value k.0 ≡ arc_value owner) × (reply_data k.1 ≡ reply_data reply.now)))) }
-    ensures light { tells_of_change (reply_data reply.now) ≡ true → is_ok result ≡ true }
-{
-    let entered = reply.copy()?;
-    let Some(call) = call else {
-        return Ok((entered, None));
-    };
-    Ok((entered, Some((call, reply.copy()?))))
 }

@@ -1,7 +1,6 @@
 //! The entries of the journal.
 
 use crate::{Call, Reply};
-use std::sync::Arc;
 
 /// A session's call and the reply to it.
 #[derive(Drop, Debug)]
@@ -9,7 +8,6 @@ pub struct Entry {
     pub session: u16,
     /// How many earlier entries are of this session.
     pub number: u64,
-    /// Shared with whoever keeps it too.
-    pub call: Arc<Call>,
+    pub call: Call,
     pub reply: Reply,
 }

@@ -1,6 +1,5 @@
 //! The journal of a book.
-ghost use Rattle.std.specs.Prelude.{◌≡◌, ◌<◌, ◌≤◌, [], false, true, length, map, IfOk, OnOk, MatchOption};
-ghost use Rattle.std.specs.Arc.{arc_value};
+ghost use Rattle.std.specs.Prelude.{◌≡◌, ◌<◌, ◌≤◌, [], length, map, OnOk};
 ghost use Rattle.scm_sequences.specs.declared.limits.TheConstants.{MOST_ENTRIES};
 ghost use Rattle.scm_book.specs.Machine.{entry_data, call_data, reply_data};
 ghost use Rattle.scm_book.specs.Journal.{is_full as is_full_list, count_of as count_in, entered, AreNumbered};
@@ -9,7 +8,6 @@ use crate::{Call, Entry, Reply};
 use scm_sequences::{MOST_ENTRIES, NoMemory};
 use std::alloc::Global;
 use std::marker::Model;
-use std::sync::Arc;
 
 /// The calls that were answered, in order, each with its reply and its number within its session.
 ///
@@ -71,25 +69,8 @@ impl Journal {
         }
     }
 
-    /// Makes room for one more entry of a session, in amortized constant time. Gives its call, as the entry has it, and one
-    /// owner more of it where it `is_kept` elsewhere too.
-    pub(crate) fn make_room(
-        &mut self,
-        session: u16,
-        call: Call,
-        is_kept: bool,
-    ) -> Result<(Arc<Call>, Option<Arc<Call>>), NoMemory>
-        ensures room { OnOk result ((0 < self.new.room) × (session < self.new.sessions)) }
-        ensures entries { self.new.entries ≡ self.old.entries }
-        ensures call { IfOk result (λ shared. arc_value shared.0 ≡ call) }
-        ensures kept { IfOk result (λ shared. MatchOption shared.1 (is_kept ≡ false) (λ owner. (is_kept ≡ true) × (arc_value owner ≡ call))) }
-    {
-        self.reserve(session)?;
-        share(*self.entries.allocator(), call, is_kept)
-    }
-
-    // Room for the entry, and a counter of its session.
-    fn reserve(&mut self, session: u16) -> Result<(), NoMemory>
+    /// Makes room for one more entry of a session, in amortized constant time.
+    pub(crate) fn make_room(&mut self, session: u16) -> Result<(), NoMemory>
         ensures room { OnOk result ((0 < self.new.room) × (session < self.new.sessions)) }
         ensures entries { self.new.entries ≡ self.old.entries }
     {
@@ -102,11 +83,11 @@ impl Journal {
     }
 
     /// Adds an entry. It takes no memory, since `make_room` did.
-    pub(crate) fn enter(&mut self, session: u16, call: Arc<Call>, reply: Reply)
+    pub(crate) fn enter(&mut self, session: u16, call: Call, reply: Reply)
         requires room { 0 < self.old.room }
         requires session { session < self.old.sessions }
         requires most { length self.old.entries < MOST_ENTRIES }
-        ensures { self.new.entries ≡ entered self.old.entries session (call_data (arc_value call)) (reply_data reply) }
+        ensures { self.new.entries ≡ entered self.old.entries session (call_data call) (reply_data reply) }
     {
         let place = usize::from(session);
         let number = self.counts[place];
@@ -119,23 +100,4 @@ impl Journal {
         self.entries.push(entry).unwrap();
         self.counts[place] = number + 1;
     }
-}
-
-/// A call that can be shared, with one owner more where it `is_kept`.
-fn share(
-    alloc: Global,
-    call: Call,
-    is_kept: bool,
-) -> Result<(Arc<Call>, Option<Arc<Call>>), NoMemory>
-    ensures call { IfOk result (λ shared. arc_value shared.0 ≡ call) }
-    ensures kept { IfOk result (λ shared. MatchOption shared.1 (is_kept ≡ false) (λ owner. (is_kept ≡ true) × (arc_value owner ≡ call))) }
-{
-    let Ok(owner) = Arc::new(alloc, call) else {
-        return Err(NoMemory);
-    };
-    if !is_kept {
-        return Ok((owner, None));
-    }
-    let other = Arc::try_clone(&owner)?;
-    Ok((owner, Some(other)))
 }

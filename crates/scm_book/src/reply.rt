@@ -87,7 +87,7 @@ impl Reply {
 
     /// Whether a call that is answered so makes an entry of the journal: each does but those refused for want of memory
     /// or for a full journal.
-    pub(crate) fn makes_entry(&self) -> bool
+    pub fn makes_entry(&self) -> bool
         ensures { result ≡ makes_entry_data (reply_data self.now) }
     {
         !matches!(

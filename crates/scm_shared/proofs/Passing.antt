@@ -1,13 +1,12 @@
 -- What a call adds to what its pass knows.
-use Rattle.std.proofs.Common.{◌≡◌, ℕ, ◌+◌, List, [], ◌∷◌, ◌++◌, length, map, refl, sym, ap, ◌∙◌, subst, arith, length-append}
-use Rattle.std.proofs.lemmas.List.{map-append}
-use Rattle.std.specs.Arc.{arc_value}
-use Rattle.scm_book.specs.Machine.{CallData, ReplyData, EntryData, KeptCall, kept_data, call_data, reply_data, Machine}
+use Rattle.std.proofs.Common.{◌≡◌, ℕ, ◌+◌, List, [], ◌∷◌, ◌++◌, length, refl, sym, ap, ◌∙◌, subst, arith, length-append}
+use Rattle.scm_book.specs.Machine.{CallData, ReplyData, EntryData, Machine}
 use Rattle.scm_book.specs.Journal.{count_of, entered, IsLegalHistory}
 use Rattle.scm_book.specs.inner.Callers.{calls_by}
 use Rattle.scm_book.specs.laws.CallerLaws.{calls_by-entry_own}
 use Rattle.scm_shared.specs.Passes.{Known, known, Extended}
 use Rattle.scm_shared.specs.inner.Rule.{FitsHistory}
+use Rattle.scm_shared.specs.inner.Steps.{called}
 
 -- a pass that fitted the journal makes a call, and has seen the journal with it
 pub extended : (old : Known) (log now : List EntryData) (machine : Machine) (call : CallData) (reply : ReplyData) (number : ℕ) (made : List (CallData × ReplyData)) (seen : List EntryData) (front : ℕ)
@@ -32,15 +31,12 @@ extended old log now machine call reply number made seen front fit is legal same
       own = ap (λ (n : ℕ). calls_by n seen) same ∙ ap (calls_by old.number) all ∙ calls ∙ sym one_more;
     }
 
--- one more call is kept
-pub kept_more : (old pushed : List KeptCall) (one : KeptCall) (call : CallData) (reply : ReplyData) (made : List (CallData × ReplyData))
-    → pushed ≡ old ++ one ∷ [] → map kept_data old ≡ made → call_data (arc_value one.0) ≡ call → reply_data one.1 ≡ reply → map kept_data pushed ≡ made ++ (call, reply) ∷ []
-kept_more old pushed one call reply made is was called replied =
-    ap (map kept_data) is ∙ map-append kept_data old (one ∷ []) ∙ (λ i. was i ++ (called i, replied i) ∷ [])
-
--- a pass that has seen the journal with its last entry has seen all
-pub seen_all : (log own entries now seen : List EntryData) (number : ℕ) (call : CallData) (reply : ReplyData) → entries ≡ now → now ≡ entered log number call reply → own ≡ log
-    → ((last : EntryData) → entries ≡ own ++ last ∷ [] → seen ≡ entries) → seen ≡ now
-seen_all log own entries now seen number call reply are is whole told =
+-- a pass that was told of the journal's last entry, its call's, made it and has seen all
+pub told_last : (log own entries now : List EntryData) (old held told : Known) (number : ℕ) (call : CallData) (reply : ReplyData)
+    → entries ≡ now → now ≡ entered log number call reply → own ≡ log → held ≡ old
+    → ((last : EntryData) → entries ≡ own ++ last ∷ [] → told ≡ called last entries held)
+    → (told.made ≡ old.made ++ (call, reply) ∷ []) × (told.seen ≡ now)
+told_last log own entries now old held told number call reply are is whole same tells =
     let last : EntryData = record { session = number; number = count_of number log; call = call; reply = reply } in
-    told last (are ∙ is ∙ ap (λ (l : List EntryData). l ++ last ∷ []) (sym whole)) ∙ are
+    let all : told ≡ called last entries held = tells last (are ∙ is ∙ ap (λ (l : List EntryData). l ++ last ∷ []) (sym whole)) in
+    (ap (λ (k : Known). k.made) all ∙ ap (λ (k : Known). k.made ++ (call, reply) ∷ []) same, ap (λ (k : Known). k.seen) all ∙ are)

@@ -27,8 +27,8 @@ pub struct Audit {
     pub entered: u16,
     /// How many tallies were given.
     pub tallies: u32,
-    /// Whether each session with an entry has its pass among those handed in, and the calls that each of these kept are its
-    /// session's entries, in order.
+    /// Whether each session with an entry has its pass among those handed in. That the calls of these are its entries, in
+    /// order, is proved.
     pub agreed: bool,
     /// Whether the tallies add up to what the book counted.
     pub totals_agreed: bool,

@@ -6,11 +6,11 @@ ghost use Rattle.scm_sequences.specs.declared.limits.TheConstants.{MOST_SESSIONS
 ghost use Rattle.scm_results.specs.declared.naming.TheConstants.{MOST_TALLIES};
 ghost use Rattle.scm_results.specs.Tallies.{nothing, nothing_counted};
 ghost use Rattle.scm_book.specs.Machine.{call_data, reply_data};
-ghost use Rattle.scm_book.specs.Journal.{makes_entry, IsUnchanged};
+ghost use Rattle.scm_book.specs.Journal.{makes_entry, IsCall, IsUnchanged};
 ghost use Rattle.scm_book.specs.inner.Loans.{IsLending, IsLendingForWork};
 ghost use Rattle.scm_book.specs.inner.Plans.{IsKnown, known_reply};
 ghost use Rattle.scm_book.specs.inner.Workers.{IsTaking, IsDelivery};
-ghost use Rattle.scm_shared.specs.inner.Locking.{with_one_entered, KeepsCounts, IsLockedCall, IsSearchedCall};
+ghost use Rattle.scm_shared.specs.inner.Locking.{with_one_entered, KeepsCounts, IsSearchedCall};
 ghost use Rattle.scm_shared.specs.Passes.{newcomer, IsPassCall};
 ghost use Rattle.scm_shared.specs.inner.Seats.{IsKeeper};
 
@@ -43,7 +43,7 @@ pub(crate) struct Locked<B: BookNaming> {
 }
 
 impl<B: BookNaming> Model for Locked<B> {
-    ghost use Rattle.std.specs.Prelude.{◌≡◌, ◌≢◌, ◌+◌, ◌≤◌, length};
+    ghost use Rattle.std.specs.Prelude.{◌≡◌, ◌+◌, ◌≤◌, length};
     ghost use Rattle.scm_sequences.specs.declared.limits.TheConstants.{MOST_SESSIONS};
     ghost use Rattle.scm_shared.specs.inner.Locking.{LockedState};
     ghost use Rattle.scm_shared.specs.inner.Seats.{IsKeeper};
@@ -93,11 +93,7 @@ impl<B: BookNaming> Locked<B> {
     }
 
     /// A new pass.
-    pub(crate) fn enter(
-        &mut self,
-        length_word: &LengthWord<B>,
-        alloc: Global,
-    ) -> Result<Pass<B>, Refusal>
+    pub(crate) fn enter(&mut self, length_word: &LengthWord<B>) -> Result<Pass<B>, Refusal>
         ensures entered { MatchResult result (λ p. (p ≡ newcomer self.old.entered) × (self.old.entered < MOST_SESSIONS)) (λ r. (r ≡ TooManySessions) × (self.old.entered ≡ MOST_SESSIONS)) }
         ensures locked { MatchResult result (λ _. self.new ≡ with_one_entered self.old) (λ _. self.new ≡ self.old) }
     {
@@ -109,7 +105,7 @@ impl<B: BookNaming> Locked<B> {
         self.entered += 1;
         Ok(Pass {
             number,
-            kept: Vec::new(alloc),
+            made: 0,
             front: 0,
             badge,
             share: self.unissued.split_off(1, 0),
@@ -117,8 +113,7 @@ impl<B: BookNaming> Locked<B> {
         })
     }
 
-    /// Makes a call of the pass's session, to which the reply may be known. Where there is no room to keep it, the book isn't
-    /// called.
+    /// Makes a call of the pass's session, with what the call's plan says of its answer.
     pub(crate) fn call(
         &mut self,
         length_word: &LengthWord<B>,
@@ -128,28 +123,22 @@ impl<B: BookNaming> Locked<B> {
     ) -> Reply
         requires { IsKnown self.old.book.machine (call_data call) (known_reply outlook) }
         ensures answered { IsPassCall pass.old (call_data call) (reply_data result) pass.new }
-        ensures book { IsLockedCall self.old.book pass.old.number (call_data call) (reply_data result) self.new.book }
+        ensures book { IsCall self.old.book pass.old.number (call_data call) (reply_data result) self.new.book }
         ensures counts { KeepsCounts self.old self.new }
         ensures unchanged { makes_entry (reply_data result) ≡ false → IsUnchanged self.old.book self.new.book }
     {
-        if pass.kept.reserve(1).is_err() {
-            return Reply::Refused(Refusal::NoMemory);
-        }
-        let (reply, kept) = self.book.call_kept(pass.number, call, outlook);
-        match kept {
-            Some(kept) => {
-                let entries = self.book.entries();
-                let front = length_word.commit_last(&mut self.seat, &mut pass.badge, entries);
-                self.made.add(&mut pass.share, 1);
-                pass.front = front;
-                pass.kept.push_reserved(kept);
-            }
-            None => {
-                if matches!(reply, Reply::Refused(Refusal::JournalFull)) {
-                    length_word.catch_up(&mut self.seat, &mut pass.badge);
-                    pass.front = MOST_ENTRIES as u64;
-                }
-            }
+        let reply = self.book.call_planned(pass.number, call, outlook);
+        if reply.makes_entry() {
+            let entries = self.book.entries();
+            let front = length_word.commit_last(&mut self.seat, &mut pass.badge, entries);
+            // By this, which does nothing at run time, the pass made no more calls than there were entries: so no sum wraps.
+            self.made.audit(&mut pass.share);
+            self.made.add(&mut pass.share, 1);
+            pass.made += 1;
+            pass.front = front;
+        } else if matches!(reply, Reply::Refused(Refusal::JournalFull)) {
+            length_word.catch_up(&mut self.seat, &mut pass.badge);
+            pass.front = MOST_ENTRIES as u64;
         }
         reply
     }
@@ -163,7 +152,7 @@ impl<B: BookNaming> Locked<B> {
         call: Call,
     ) -> Result<Reply, (Call, Result<BookLoan<B>, u64>)>
         ensures answered { IfOk result (λ reply. IsPassCall pass.old (call_data call) (reply_data reply) pass.new) }
-        ensures called { IfOk result (λ reply. IsLockedCall self.old.book pass.old.number (call_data call) (reply_data reply) self.new.book) }
+        ensures called { IfOk result (λ reply. IsCall self.old.book pass.old.number (call_data call) (reply_data reply) self.new.book) }
         ensures asked { IfErr result (λ asked. call_data asked.0 ≡ call_data call) }
         ensures lent { IfErr result (λ asked. MatchResult asked.1 (λ loan. IsLending self.old.book (call_data call) (Some loan.lent) self.new.book) (λ _. IsLending self.old.book (call_data call) None self.new.book)) }
         ensures pass { IfErr result (λ _. pass.new ≡ pass.old) }

@@ -1,23 +1,20 @@
 //! What a caller holds.
-ghost use Rattle.std.specs.Prelude.{◌≡◌, ◌≤◌, length, map};
-ghost use Rattle.scm_book.specs.Machine.{kept_data};
+ghost use Rattle.std.specs.Prelude.{◌≡◌, ◌≤◌, length};
 
 use crate::word::View;
 use crate::{BookNaming, Made};
 use atomic_table::Badge;
-use scm_book::{Call, Reply};
 use std::marker::{Model, PhantomData};
-use std::sync::Arc;
 use std::sync::ledger::Share;
 
-/// The right to call a shared book as one session. It keeps the calls that became entries, with their replies.
+/// The right to call a shared book as one session.
 ///
-/// Contracts see what the pass knows: its number, its calls, the history that it has seen, and a length that the history has
-/// reached.
+/// Contracts see what the pass knows: its number, its calls that became entries with their replies, the history that it has
+/// seen, and a length that the history has reached. Calls and history are kept by its badge, in proofs alone.
 #[derive(Drop)]
 pub struct Pass<B: BookNaming> {
     pub(crate) number: u16,
-    pub(crate) kept: Vec<(Arc<Call>, Reply)>,
+    pub(crate) made: u64,
     pub(crate) front: u64,
     pub(crate) badge: Badge<View>,
     pub(crate) share: Share<Made<B>>,
@@ -25,21 +22,21 @@ pub struct Pass<B: BookNaming> {
 }
 
 impl<B: BookNaming> Model for Pass<B> {
-    ghost use Rattle.std.specs.Prelude.{◌≡◌, ◌≤◌, length, map};
-    ghost use Rattle.scm_book.specs.Machine.{kept_data};
+    ghost use Rattle.std.specs.Prelude.{◌≡◌, ◌≤◌, length};
     ghost use Rattle.scm_shared.specs.Passes.{Known, known};
     ghost use Rattle.scm_shared.specs.inner.Seats.{known_in, IsPassOf};
 
     ghost Value = { Known };
 
-    ghost view = { λ p. known p.number (map kept_data p.kept.items) (known_in p.badge.views).seen p.front };
+    ghost view = { λ p. known p.number (known_in p.badge.views).made (known_in p.badge.views).seen p.front };
 
     ghost invariant = { λ p.
         (p.badge.table_id ≡ B.table)
-        × IsPassOf p.badge.views (known p.number (map kept_data p.kept.items) (known_in p.badge.views).seen p.front)
+        × IsPassOf p.badge.views (known p.number (known_in p.badge.views).made (known_in p.badge.views).seen p.front)
         × (length (known_in p.badge.views).seen ≤ p.front)
         × (p.share.parts ≡ 1)
-        × (p.share.amount ≡ length p.kept.items) };
+        × (p.share.amount ≡ p.made)
+        × (p.made ≡ length (known_in p.badge.views).made) };
 }
 
 impl<B: BookNaming> Pass<B> {
@@ -54,14 +51,7 @@ impl<B: BookNaming> Pass<B> {
     pub fn made(&self) -> u64
         ensures { result ≡ length self.now.made }
     {
-        self.kept.len() as u64
-    }
-
-    /// The calls that became entries, with their replies, in order.
-    pub fn kept(&self) -> &[(Arc<Call>, Reply)]
-        ensures { map kept_data result.now ≡ self.now.made }
-    {
-        &self.kept
+        self.made
     }
 
     /// A length that the journal has reached, as far as this pass was told. It has seen no more.

@@ -275,12 +275,12 @@ pub(crate) fn assert_carried(rt: &impl Abort, alloc: Global, book: &mut Book) {
     let ask = call_of(rt, alloc, "ask t");
     let outlook = carried(book, &ask);
     let is_known = matches!(outlook, Outlook::Known(_));
-    let (reply, kept) = book.call_kept(ANNA, ask, outlook);
+    let before = book.count_of(ANNA);
+    let reply = book.call_planned(ANNA, ask, outlook);
     let is_consistent = says(&reply, "consistent");
     drop(reply);
-    let is_kept = kept.is_some();
-    drop(kept);
-    assert!(rt; is_known && is_consistent && is_kept && book.steps() == 0);
+    assert!(rt; is_known && is_consistent && book.steps() == 0);
+    assert!(rt; book.count_of(ANNA) == before.saturating_add(1));
 }
 
 #[test]

@@ -13,8 +13,6 @@ mod fakes;
 #[cfg(test)]
 mod journals;
 #[cfg(test)]
-mod kept;
-#[cfg(test)]
 mod ports;
 #[cfg(test)]
 mod ran;
@@ -26,6 +24,8 @@ mod reply_texts;
 mod runs;
 #[cfg(test)]
 mod scripts;
+#[cfg(test)]
+mod session;
 #[cfg(test)]
 mod storm;
 #[cfg(test)]

@@ -28,7 +28,7 @@ pub(crate) fn run_again(alloc: Global, entries: &[Entry]) -> Result<(Book, Vec<R
     for entry in entries {
         events.push(Event::CallBy {
             session: entry.session,
-            call: (*entry.call).clone()?,
+            call: entry.call.clone()?,
         })?;
     }
     match run_events(alloc, Book::new(alloc), events) {

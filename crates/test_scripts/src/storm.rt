@@ -2,18 +2,18 @@
 ghost use Rattle.std.specs.Prelude.{◌≡◌};
 
 use crate::each;
-use crate::kept::{are_entries_of, kept_by};
 use crate::replays::replays;
+use crate::session::{Session, are_entries_of};
 use crate::storm_lines::{CALLERS, Caller, TURNS};
 use scm_book::{Call, Reply};
 use scm_expand::{Gate, run_workers};
 use scm_sessions::read_line;
-use scm_shared::{Audit, BookNaming, BookToken, Pass, SharedBook};
+use scm_shared::{Audit, BookNaming, BookToken, SharedBook};
 use std::alloc::{AllocError, Global};
 use std::marker::Brand;
 use std::process::Abort;
+use std::sync::Wait;
 use std::sync::atomic::{AtomicU64, Ordering};
-use std::sync::{Arc, Wait};
 use std::test::Fail;
 use std::thread::Threads;
 use std::time::{Clock, Duration, Instant};
@@ -85,28 +85,20 @@ impl Gate for Gusts {
     }
 }
 
-/// Whether the call that was answered so is the last that the pass kept.
-fn is_kept<B: BookNaming>(pass: &Pass<B>, reply: &Reply) -> bool {
-    match pass.kept().last() {
-        Some((_, kept)) => kept == reply,
-        None => false,
-    }
-}
-
 /// Makes the calls of these lines.
 fn call_all<B: BookNaming, R: Wait + Abort>(
     rt: &R,
     alloc: Global,
     shared: &SharedBook<B>,
     gusts: &Gusts,
-    pass: &mut Pass<B>,
+    session: &mut Session<B>,
     lines: &str,
 ) {
     for line in lines.lines() {
         let (_, call) = read_line(alloc, line.as_bytes()).expect(rt, "a call");
-        let reply = shared.call(rt, pass, call);
+        let called = session.call(rt, shared, call);
         gusts.answered.fetch_add(1, Ordering::SeqCst);
-        assert!(rt; is_kept(pass, &reply));
+        assert!(rt; called.is_ok());
     }
 }
 
@@ -116,44 +108,45 @@ fn wake_crew<B: BookNaming, R: Wait + Abort>(
     alloc: Global,
     shared: &SharedBook<B>,
     gusts: &Gusts,
-    passes: &mut [Pass<B>],
+    sessions: &mut [Session<B>],
 ) {
-    if let Some(first) = passes.first_mut() {
+    if let Some(first) = sessions.first_mut() {
         call_all(rt, alloc, shared, gusts, first, CALM);
     }
     assert!(rt; rises_to(&gusts.came, 1));
 }
 
-/// Makes all turns of one caller, and gives its pass back.
+/// Makes all turns of one caller, and gives its session back.
 fn call_on<B: BookNaming, R: Wait + Abort>(
     rt: &R,
     alloc: Global,
     shared: &SharedBook<B>,
     gusts: &Gusts,
-    mut pass: Pass<B>,
-) -> Pass<B> {
-    let mut caller = Caller::new(pass.number());
+    mut session: Session<B>,
+) -> Session<B> {
+    let mut caller = Caller::new(session.pass.number());
     for turn in 1..=TURNS {
         if turn % TURNS_TO_A_PAUSE == 0 {
             gusts.pause(rt, turn / TURNS_TO_A_PAUSE);
         }
         let lines = caller.turn(alloc).expect(rt, "memory");
-        call_all(rt, alloc, shared, gusts, &mut pass, lines.as_str());
+        call_all(rt, alloc, shared, gusts, &mut session, lines.as_str());
     }
-    pass
+    session
 }
 
-/// Passes for all callers.
-fn passes<B: BookNaming, R: Wait>(
+/// Sessions for all callers.
+fn sessions<B: BookNaming, R: Wait>(
     rt: &R,
     alloc: Global,
     shared: &SharedBook<B>,
-) -> Result<Vec<Pass<B>>, Fail> {
-    let mut passes = Vec::new(alloc);
+) -> Result<Vec<Session<B>>, Fail> {
+    let mut sessions = Vec::new(alloc);
     for _ in 0..CALLERS {
-        passes.push(shared.enter(rt).ok().ok_or("a pass")?)?;
+        let pass = shared.enter(rt).ok().ok_or("a pass")?;
+        sessions.push(Session::new(alloc, pass))?;
     }
-    Ok(passes)
+    Ok(sessions)
 }
 
 /// Wakes the crew, makes the turns of all callers, each in a thread of its own, and tells the crew to end.
@@ -162,24 +155,24 @@ fn call_and_stop<B: BookNaming + Send + Sync, R: Threads + Wait + Abort + Sync>(
     alloc: Global,
     shared: &SharedBook<B>,
     gusts: &Gusts,
-    mut passes: Vec<Pass<B>>,
-) -> Result<Vec<Pass<B>>, AllocError> {
-    wake_crew(rt, alloc, shared, gusts, passes.as_mut_slice());
-    let passes = thread::map_vec(
+    mut sessions: Vec<Session<B>>,
+) -> Result<Vec<Session<B>>, AllocError> {
+    wake_crew(rt, alloc, shared, gusts, sessions.as_mut_slice());
+    let sessions = thread::map_vec(
         rt,
-        passes,
-        &|pass| { call_on(rt, alloc, shared, gusts, pass) },
+        sessions,
+        &|session| { call_on(rt, alloc, shared, gusts, session) },
     );
     shared.stop_workers();
-    passes
+    sessions
 }
 
 /// What is left of a storm after all callers and workers have ended.
 #[derive(Drop)]
 struct Ended {
     audit: Audit,
-    /// What each pass kept.
-    kept: Vec<Vec<(Arc<Call>, Reply)>>,
+    /// What each caller asked, and was answered.
+    calls: Vec<Vec<(Call, Reply)>>,
     /// How many calls were answered.
     answered: u64,
     /// How often workers came to the gate.
@@ -197,16 +190,21 @@ fn storm<B: BookNaming + Send + Sync, R: Threads + Wait + Abort + Sync>(
 {
     let gusts = Gusts::new();
     let shared = SharedBook::<B>::new(alloc, token);
-    let passes = passes(rt, alloc, &shared)?;
-    let (passes, tallies) = thread::join(
+    let sessions = sessions(rt, alloc, &shared)?;
+    let (sessions, tallies) = thread::join(
         rt,
-        || call_and_stop(rt, alloc, &shared, &gusts, passes),
+        || call_and_stop(rt, alloc, &shared, &gusts, sessions),
         || run_workers::<B, SharedBook<B>, Gusts, R>(rt, alloc, &shared, &gusts, WORKERS),
     );
-    let passes = passes?;
+    let (mut passes, mut calls) = (Vec::new(alloc), Vec::new(alloc));
+    for session in sessions? {
+        assert!(rt; session.pass.made() == session.calls.len() as u64);
+        passes.push(session.pass)?;
+        calls.push(session.calls)?;
+    }
     Ok(Ended {
-        kept: kept_by(alloc, passes.as_slice())?,
         audit: shared.audit(passes, tallies?),
+        calls,
         answered: gusts.answered.into_inner(),
         came: gusts.came.into_inner(),
     })
@@ -240,8 +238,8 @@ fn storm_passes(rt: HostRuntime) -> Result<(), Fail> {
         came = came.saturating_add(ended.came);
         let checked = check_audit(&rt, alloc, &ended.audit, ended.answered as usize);
         let journal = ended.audit.book.entries();
-        for (session, kept) in ended.kept.iter().enumerate() {
-            assert!(rt; are_entries_of(session, kept, journal));
+        for (session, calls) in ended.calls.iter().enumerate() {
+            assert!(rt; are_entries_of(session, calls, journal));
         }
         drop(ended);
         checked?;

@@ -1,5 +1,5 @@
 //! The calls of the book, one by one.
-ghost use Rattle.std.specs.Prelude.{◌≡◌, ◌+◌, ◌-◌, false, None};
+ghost use Rattle.std.specs.Prelude.{◌≡◌, ◌+◌, ◌-◌};
 ghost use Rattle.scm_book.specs.Machine.{reply_data, opens, claims, releases, reports, sets_mark, goes_back, raises, asks, asks_why, asks_cycle, shows, lists, closes};
 ghost use Rattle.scm_book.specs.inner.Sets.{HasRoomFor, SearchesSet};
 ghost use Rattle.scm_results.specs.Totals.{capped};
@@ -107,15 +107,7 @@ impl Book {
         ensures counted { self.new.steps ≡ capped (self.old.steps + (steps.new - steps.old)) }
         ensures legal { IsLegalBook self.new }
     {
-        let (reply, kept) = self.make(
-            session,
-            Call::Ask { name, mark },
-            Outlook::Unknown,
-            false,
-            steps,
-        );
-        drop(kept);
-        reply
+        self.make(session, Call::Ask { name, mark }, Outlook::Unknown, steps)
     }
 
     /// The same, with a refutation in place of `Inconsistent`. Refused `NoSuchTrace`, `NoSuchMark`.
@@ -126,15 +118,7 @@ impl Book {
         ensures counted { self.new.steps ≡ capped (self.old.steps + (steps.new - steps.old)) }
         ensures legal { IsLegalBook self.new }
     {
-        let (reply, kept) = self.make(
-            session,
-            Call::Why { name, mark },
-            Outlook::Unknown,
-            false,
-            steps,
-        );
-        drop(kept);
-        reply
+        self.make(session, Call::Why { name, mark }, Outlook::Unknown, steps)
     }
 
     /// A short refutation of the trace, as it is or as it stood at a mark: orders that every legal schedule would have to

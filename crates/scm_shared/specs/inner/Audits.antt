@@ -1,4 +1,4 @@
--- What an audit tells: whether the calls that passes kept are the journal's.
+-- What an audit tells: whether the calls that passes made are the journal's.
 use Rattle.std.specs.Prelude.{◌≡◌, List, Bool, true, ◌==◌, All}
 use Rattle.std.specs.List.{list_all, list_any}
 use Rattle.scm_book.specs.Machine.{EntryData}

@@ -1,8 +1,7 @@
 -- What lies under the lock.
-use Rattle.std.specs.Prelude.{ℕ, ◌≡◌, ◌+◌, ◌⊎◌}
-use Rattle.scm_sequences.specs.declared.refusal.Refusal.TheVariants.{NoMemory}
+use Rattle.std.specs.Prelude.{ℕ, ◌≡◌, ◌+◌}
 use Rattle.scm_results.specs.Tallies.{Total}
-use Rattle.scm_book.specs.Machine.{CallData, ReplyData, refused}
+use Rattle.scm_book.specs.Machine.{CallData, ReplyData}
 use Rattle.scm_book.specs.Journal.{BookState, IsCall}
 use Rattle.scm_book.specs.inner.Loans.{Loaned, IsTakingBack}
 
@@ -13,17 +12,9 @@ pub record LockedState : Type 0 where
   -- what workers took and delivered, and how many tallies were given
   pub totals : Total
 
--- a call for which the pass has no room: it is refused for want of memory, and the book is as it was
-abbrev pub IsRefusedRoom : BookState → ReplyData → BookState → Type 0
-IsRefusedRoom old reply new = (reply ≡ refused NoMemory) × (new ≡ old)
-
--- a session's call under the lock: the book's, or one for which the pass has no room
-abbrev pub IsLockedCall : BookState → ℕ → CallData → ReplyData → BookState → Type 0
-IsLockedCall old session call reply new = IsRefusedRoom old reply new ⊎ IsCall old session call reply new
-
 -- what was lent is taken back, and then the call is made
 abbrev pub IsSearchedCall : BookState → Loaned → ℕ → CallData → ReplyData → BookState → Type 0
-IsSearchedCall old lent session call reply new = (mid : BookState) × IsTakingBack old lent mid × IsLockedCall mid session call reply new
+IsSearchedCall old lent session call reply new = (mid : BookState) × IsTakingBack old lent mid × IsCall mid session call reply new
 
 -- nothing but the book changed
 pub record KeepsCounts (old new : LockedState) : Type 0 where

@@ -2,7 +2,7 @@ use Rattle.std.proofs.Common.{◌≡◌, ◌+◌, ◌-◌, ◌++◌, List, ℕ, 
 use Rattle.std.specs.Vec.{vec_len}
 use Rattle.scm_book.specs.Machine.{entry_data}
 use Rattle.scm_book.proofs.Counting.{CountsEach-widened}
-use Rattle.scm_book.proofs.journal.Journal.reserve.Goals as goal
+use Rattle.scm_book.proofs.journal.Journal.make_room.Goals as goal
 
 pub invariant_of-self-in-Continue-branch-2 : goal.invariant_of-self-in-Continue-branch-2
 invariant_of-self-in-Continue-branch-2 c =
