@@ -12,10 +12,10 @@ REPORTS = 1_000_000
 BUDGET = 1_000_000
 SECONDS = 60  # after this a question is given up
 REPEATS = 3  # the best of so many runs counts
-TURNS = 15  # runs of two programs by turns
+TURNS = 21  # runs of two programs by turns
 STORES = 9  # of each writer
 WRITERS = range(1, 7)  # 10, 100, .. 1,000,000 situations
-ASKED = 50  # questions where many situations are held
+ASKED, AGAIN = 50, 10_000  # questions where many situations are held: those that take long, and the same again
 ROUNDS = (10, 100, 1_000)  # of a trace that grows, two reports and a question each
 
 
@@ -124,11 +124,11 @@ def growing(rounds):
         yield "a ask t"
 
 
-def held(writers, later):
+def held(writers, later, times):
     """The first of these, and then the same lines a number of times. An operation of the reader after the one that has
     no place adds no situation."""
     yield from forbidden(writers)
-    for _ in range(ASKED):
+    for _ in range(times):
         yield from (line.format(writers) for line in later)
 
 
@@ -153,12 +153,12 @@ def machine():
     return f"{model}, {os.cpu_count()} processors, {memory}, {platform.system()} {platform.release()}"
 
 
-def measure_reports(program):
+def measure_reports(program, told):
     lines = list(reports())
     replies, taken = best(program, script_of(lines))
     if replies != [b"a ok"] * len(lines):
         sys.exit("bench: a report was refused")
-    print(f"reports: {REPORTS} lines over {TRACES} traces in {taken:.2f} s: {REPORTS / taken:,.0f} lines a second")
+    print(f"reports: {REPORTS} lines over {TRACES} traces in {taken:.2f} s {told}: {REPORTS / taken:,.0f} lines a second")
 
 
 def measure_questions(program, title, family, verdict):
@@ -182,15 +182,16 @@ def measure_held(program):
     print(f"{'situations':>11} {'asked again, ms':>16} {'a report and a question, ms':>28} {'at a mark again, ms':>20}")
     for writers in WRITERS[2:]:
         alone = best(program, script_of(forbidden(writers)), SECONDS)
-        again = best(program, script_of(held(writers, ["a ask t"])), SECONDS)
-        longer = best(program, script_of(held(writers, ["a do t {} lw c0 1", "a ask t"])), SECONDS)
+        again = best(program, script_of(held(writers, ["a ask t"], AGAIN)), SECONDS)
+        longer = best(program, script_of(held(writers, ["a do t {} lw c0 1", "a ask t"], ASKED)), SECONDS)
         mark = best(program, script_of(at_mark(writers, 1)), SECONDS)
         marks = best(program, script_of(at_mark(writers, 1 + ASKED)), SECONDS)
         if None in (alone, again, longer, mark, marks):
             return
         if not all(ran[0][-1].startswith(b"a inconsistent") for ran in (alone, again, longer, mark, marks)):
             sys.exit("bench: wrong verdict")
-        each = [(ran[1] - before[1]) / ASKED * 1_000 for ran, before in ((again, alone), (longer, alone), (marks, mark))]
+        pairs = ((again, alone, AGAIN), (longer, alone, ASKED), (marks, mark, ASKED))
+        each = [(ran[1] - before[1]) / times * 1_000 for ran, before, times in pairs]
         print(f"{(STORES + 1) ** writers:>11,} {each[0]:>16.3f} {each[1]:>28.3f} {each[2]:>20.3f}")
 
 
@@ -222,11 +223,11 @@ def measure_default(program):
         told = f"{seconds:>7.2f} {alone:>7.2f} {seconds / alone:>6.2f} {memory:>7.0f} {less:>7.0f} {memory / less:>6.2f}"
         print(f"a million {title:<24}{told} {times[len(times) // 2]:>6.2f}")
     searched = best([program], script_of(forbidden(WRITERS[-1])), SECONDS)
-    again = best([program], script_of(held(WRITERS[-1], ["a ask t"])), SECONDS)
+    again = best([program], script_of(held(WRITERS[-1], ["a ask t"], AGAIN)), SECONDS)
     if searched and again:
         if not all(ran[0][-1].startswith(b"a inconsistent") for ran in (searched, again)):
             sys.exit("bench: wrong verdict")
-        print(f"the same question again, 1,000,000 situations held: {(again[1] - searched[1]) / ASKED * 1_000:.3f} ms")
+        print(f"the same question again, 1,000,000 situations held: {(again[1] - searched[1]) / AGAIN * 1_000:.3f} ms")
 
 
 def measure_checker(checker):
@@ -241,10 +242,12 @@ def measure_checker(checker):
 
 
 def main():
-    program = [os.path.abspath(sys.argv[1]), "--workers", "0"]
+    by_default = [os.path.abspath(sys.argv[1])]
+    program = [*by_default, "--workers", "0"]
     print(f"machine: {machine()}")
-    measure_default(program[0])
-    measure_reports(program)
+    measure_default(by_default[0])
+    measure_reports(by_default, "by default")
+    measure_reports(program, "without workers")
     measure_questions(program, "questions that are inconsistent: all situations are found", forbidden, b"a inconsistent")
     measure_questions(program, "questions that are consistent: the writers' situations, and those of the reader", allowed, b"a consistent")
     measure_held(program)
