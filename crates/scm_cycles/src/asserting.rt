@@ -39,20 +39,18 @@ impl Search {
         self.read_facts.settle(claim.to, id)?;
         self.choices.see(claim)?;
         self.note_left(claim.to, 1)?;
-        if let Some(candidates) = &mut self.candidates {
-            let steps = candidates.close(claim.to)?;
-            self.burn_for(steps)?;
-        }
+        let steps = self.candidates.close(claim.to)?;
+        self.burn_for(steps)?;
         self.waiting.settled(claim.to)
     }
 
     // A read that sees first contents tells what they are.
     fn settle_contents(&mut self, read: u32, id: u32) -> Option<()> {
-        let cell = self.numbering.cell(read)?;
-        if self.read_facts.first(cell)?.is_some() || self.values.first(cell)?.is_some() {
+        let cell = self.given.numbering.cell(read)?;
+        if self.read_facts.first(cell)?.is_some() || self.given.values.first(cell)?.is_some() {
             return Some(());
         }
-        let value = self.values.found(read)?;
+        let value = self.given.values.found(read)?;
         self.set_first(cell, value, id)
     }
 

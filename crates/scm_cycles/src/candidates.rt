@@ -1,10 +1,10 @@
 //! What is left for reads to see.
 use crate::users::Users;
-use scm_clocks::{Grid, Numbering, Values, Writers};
+use scm_clocks::{Given, Grid};
 use std::alloc::Global;
 
-/// For how many operations and processes, multiplied, there are bounds at most: cases of larger traces aren't tried.
-const MOST_BOUNDS: u32 = 1 << 22;
+/// For how many operations and processes, multiplied, there are bounds at most: larger traces aren't looked at.
+const MOST_BOUNDS: u32 = 1 << 24;
 
 /// Where the writes of one process that are left stand in the list of the value: those from `low` on, below `high`; and the
 /// first and the last of them.
@@ -64,13 +64,8 @@ pub(crate) struct Candidates {
 
 impl Candidates {
     /// All writes of what each read finds, but for later ones of its process.
-    pub(crate) fn new(
-        alloc: Global,
-        numbering: &Numbering,
-        values: &Values,
-        writers: &Writers,
-    ) -> Option<Candidates> {
-        let (procs, ops) = (numbering.procs()?, numbering.len()?);
+    pub(crate) fn new(alloc: Global, given: &Given) -> Option<Candidates> {
+        let (procs, ops) = (given.numbering.procs()?, given.numbering.len()?);
         if ops.checked_mul(procs)? > MOST_BOUNDS {
             return None;
         }
@@ -81,30 +76,23 @@ impl Candidates {
             firsts: Users::new(alloc, ops)?,
             lasts: Users::new(alloc, ops)?,
         };
-        let starts = starts(alloc, numbering, values, writers)?;
+        let starts = starts(alloc, given)?;
         for x in 0..ops {
-            match values.found(x) {
-                Some(value) => candidates.add(numbering, writers, &starts, x, value)?,
+            match given.values.found(x) {
+                Some(value) => candidates.add(given, &starts, x, value)?,
                 None => candidates.add_nothing()?,
             }
         }
         Some(candidates)
     }
 
-    fn add(
-        &mut self,
-        numbering: &Numbering,
-        writers: &Writers,
-        starts: &Grid,
-        x: u32,
-        value: u32,
-    ) -> Option<()> {
-        let (owner, _) = numbering.spot(x)?;
-        let list = writers.of(value)?;
+    fn add(&mut self, given: &Given, starts: &Grid, x: u32, value: u32) -> Option<()> {
+        let (owner, _) = given.numbering.spot(x)?;
+        let list = given.writers.of(value)?;
         for process in 0..self.procs {
             let low = starts.get(process, value)?;
             let high = if process == owner {
-                u32::try_from(writers.count(value, x)?).ok()?
+                u32::try_from(given.writers.count(value, x)?).ok()?
             } else {
                 starts.get(process.checked_add(1)?, value)?
             };
@@ -202,32 +190,21 @@ impl Candidates {
 }
 
 // For each process and each value how many of its writes are of earlier processes; and last, how many there are.
-fn starts(
-    alloc: Global,
-    numbering: &Numbering,
-    values: &Values,
-    writers: &Writers,
-) -> Option<Grid> {
-    let procs = numbering.procs()?;
-    let mut starts = Grid::zeros(alloc, procs.checked_add(1)?, values.count())?;
+fn starts(alloc: Global, given: &Given) -> Option<Grid> {
+    let procs = given.numbering.procs()?;
+    let mut starts = Grid::zeros(alloc, procs.checked_add(1)?, given.values.count())?;
     let mut first: u32 = 0;
     for process in 0..procs {
-        first = first.checked_add(numbering.count(process)?)?;
-        count_writes(
-            &mut starts,
-            writers,
-            values.count(),
-            process.checked_add(1)?,
-            first,
-        )?;
+        first = first.checked_add(given.numbering.count(process)?)?;
+        count_writes(&mut starts, given, process.checked_add(1)?, first)?;
     }
     Some(starts)
 }
 
 // Fills a row with how many writes of each value have a number below `x`.
-fn count_writes(starts: &mut Grid, writers: &Writers, values: u32, row: u32, x: u32) -> Option<()> {
-    for value in 0..values {
-        let count = u32::try_from(writers.count(value, x)?).ok()?;
+fn count_writes(starts: &mut Grid, given: &Given, row: u32, x: u32) -> Option<()> {
+    for value in 0..given.values.count() {
+        let count = u32::try_from(given.writers.count(value, x)?).ok()?;
         starts.set(row, value, count)?;
     }
     Some(())

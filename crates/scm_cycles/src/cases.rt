@@ -2,7 +2,7 @@
 use crate::claims::Claim;
 use crate::conflict::Conflict;
 use crate::drawn_steps::Why;
-use crate::gathering::draft;
+use crate::gathering::gather;
 use crate::search::{Search, Sought};
 use crate::touching::Side;
 use crate::waiting::Next;
@@ -10,15 +10,6 @@ use scm_orders::Derivation;
 
 /// After how many contradictions the cases are chosen anew, at least.
 const UNIT: u64 = 30;
-
-/// How a search by cases ends.
-#[derive(Drop)]
-pub(crate) enum Ending {
-    /// With a contradiction that needs no case.
-    Contradiction(Conflict),
-    /// With nothing left to be tried.
-    Settled,
-}
 
 /// How often the cases were chosen anew, with the first time, and how many contradictions there were since.
 #[derive(Clone, Copy)]
@@ -33,9 +24,11 @@ impl Restarts {
         conflicts: 0,
     };
 
-    // Whether the cases are to be chosen anew.
+    // Whether the cases are to be chosen anew: after twice as many contradictions each second time, four times as many each
+    // fourth, ..
     fn are_due(self) -> bool {
-        self.conflicts > UNIT.saturating_mul(luby(self.count))
+        let times = 1u64.checked_shl(self.count.trailing_zeros()).unwrap_or(1);
+        self.conflicts > UNIT.saturating_mul(times)
     }
 
     fn next(self) -> Restarts {
@@ -50,42 +43,26 @@ impl Restarts {
     }
 }
 
-// The numbers 1, 1, 2, 1, 1, 2, 4, 1, 1, 2, ..: at place `n`, from 1.
-fn luby(n: u64) -> u64 {
-    let mut rest = n;
-    for _ in 0..u64::BITS {
-        let next = rest.saturating_add(1);
-        if next.is_power_of_two() {
-            return next >> 1;
-        }
-        rest = next.saturating_sub(highest_power(rest));
-    }
-    1
-}
-
-// The highest power of 2 up to `n`.
-fn highest_power(n: u64) -> u64 {
-    let place = (u64::BITS - 1).saturating_sub(n.leading_zeros());
-    1u64.checked_shl(place).unwrap_or(1)
-}
-
 impl Search {
-    /// Tries cases until nothing is left to be tried, or a contradiction needs none.
-    pub(crate) fn try_cases(&mut self) -> Option<Ending> {
+    /// Tries cases until nothing is left to be tried, or a contradiction needs none: that, if there is one.
+    pub(crate) fn try_cases(&mut self) -> Option<Option<Conflict>> {
+        self.clocks.record();
+        self.afters.record();
+        self.touch_all()?;
         for _ in 0..self.fuel {
             self.burn(1)?;
             self.propagate()?;
             if let Some(contradiction) = self.contradiction {
                 let conflict = self.explain(contradiction)?;
                 if conflict.level == 0 {
-                    return Some(Ending::Contradiction(conflict));
+                    return Some(Some(conflict));
                 }
                 self.learn(conflict)?;
                 self.restarts.add();
                 continue;
             }
             let Some(claim) = self.next_case()? else {
-                return Some(Ending::Settled);
+                return Some(None);
             };
             self.open_level()?;
             self.assert(claim, Why::Assumed, &[])?;
@@ -122,11 +99,11 @@ impl Search {
     }
 
     fn look_again(&mut self, read: u32) -> Option<()> {
-        let Some(value) = self.values.found(read) else {
+        let Some(value) = self.given.values.found(read) else {
             return Some(());
         };
         self.burn(1)?;
-        let cell = self.numbering.cell(read)?;
+        let cell = self.given.numbering.cell(read)?;
         self.visit(read, cell, value)?;
         if self.contradiction.is_none() {
             self.review_all(read)?;
@@ -141,7 +118,7 @@ impl Search {
                 lines: Vec::new(self.alloc),
                 hints: Vec::new(self.alloc),
             },
-            Sought::Refutation => draft(self.alloc, self, &conflict)?,
+            Sought::Refutation => gather(self.alloc, self, &conflict)?,
         };
         let supposed = self.supposed(&conflict)?;
         let (claims, level) = self.claims(&conflict)?;

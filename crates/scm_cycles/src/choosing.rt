@@ -1,6 +1,6 @@
 //! Which case is tried next.
 use crate::claims::Claim;
-use crate::read_views::{ReadView, part};
+use crate::read_views::part;
 use crate::search::{Search, Sought};
 
 /// What a place's share of its process is counted in.
@@ -75,27 +75,32 @@ impl Search {
 
     // Which share of its process comes before an operation.
     fn progress(&self, x: u32) -> Option<u64> {
-        let (process, at) = self.numbering.spot(x)?;
-        let count = u64::from(self.numbering.count(process)?).max(1);
+        let (process, at) = self.given.numbering.spot(x)?;
+        let count = u64::from(self.given.numbering.count(process)?).max(1);
         Some(u64::from(at).saturating_mul(WHOLE) / count)
     }
 
     // What was seen last, if it is left, else what is nearest.
-    fn choose_source(&self, read: u32) -> Option<Claim> {
+    fn choose_source(&mut self, read: u32) -> Option<Claim> {
         if let Some(claim) = self.choices.last_seen(read)?
             && self.truth(claim)?.is_none()
         {
             return Some(claim);
         }
-        let (cell, value) = (self.numbering.cell(read)?, self.values.found(read)?);
-        let view = self.view(read, cell, value)?;
+        let (cell, value) = (
+            self.given.numbering.cell(read)?,
+            self.given.values.found(read)?,
+        );
+        let left = self.narrow(read, cell, value)?;
         let mut best = None;
-        if view.is_first_left {
+        if left.is_first_left {
             let far = self.progress(read)?;
             best = better(best, Claim::sees_first(read), u64::MAX.saturating_sub(far));
         }
-        for (first, last) in view.shares.iter().filter_map(|share| share.left) {
-            best = self.nearest(best, &view, first, last)?;
+        for bounds in self.candidates.row(read)? {
+            let writers = self.given.writers.of(value)?;
+            let left = part(writers, bounds.low as usize, bounds.high as usize);
+            best = self.nearest(best, read, left)?;
         }
         best.map(|choice| choice.claim)
     }
@@ -103,16 +108,13 @@ impl Search {
     fn nearest(
         &self,
         best: Option<WeightedClaim>,
-        view: &ReadView,
-        first: u32,
-        last: u32,
+        read: u32,
+        left: &[u32],
     ) -> Option<Option<WeightedClaim>> {
-        let from = self.writers.count(view.value, first)?;
-        let to = self.writers.count(view.value, last)?.checked_add(1)?;
-        let here = self.progress(view.read)?;
+        let here = self.progress(read)?;
         let mut best = best;
-        for write in part(self.writers.of(view.value)?, from, to) {
-            if self.unseen(*write, view.read)?.is_some() {
+        for write in left {
+            if self.unseen(*write, read)?.is_some() {
                 continue;
             }
             let there = self.progress(*write)?;
@@ -121,7 +123,7 @@ impl Search {
             } else {
                 here.saturating_sub(there)
             };
-            let claim = Claim::sees(*write, view.read);
+            let claim = Claim::sees(*write, read);
             best = better(best, claim, u64::MAX.saturating_sub(far));
         }
         Some(best)
@@ -164,15 +166,15 @@ impl Search {
 
     // The first write of a process to the cell that is known neither to come before the source nor after the read.
     fn between(&self, seen: Claim, process: u32) -> Option<Option<u32>> {
-        let (owner, _) = self.numbering.spot(seen.from)?;
+        let (owner, _) = self.given.numbering.spot(seen.from)?;
         if owner == process {
             return Some(None);
         }
-        let cell = self.numbering.cell(seen.to)?;
+        let cell = self.given.numbering.cell(seen.to)?;
         let place = self.before(seen.from, process)?;
         let mut next = self.write_at(process, cell, place);
         if next == Some(seen.to) {
-            let (_, at) = self.numbering.spot(seen.to)?;
+            let (_, at) = self.given.numbering.spot(seen.to)?;
             next = self.write_at(process, cell, at.checked_add(1)?);
         }
         match next {
@@ -182,7 +184,7 @@ impl Search {
     }
 
     fn write_at(&self, process: u32, cell: u32, place: u32) -> Option<u32> {
-        let at = self.writes.from(process, cell, place)?;
-        self.numbering.number(process, at)
+        let at = self.given.writes.from(process, cell, place)?;
+        self.given.numbering.number(process, at)
     }
 }

@@ -62,7 +62,7 @@ impl Search {
         from: usize,
         to: usize,
     ) -> Option<()> {
-        for write in part(self.writers.of(view.value)?, from, to) {
+        for write in part(self.given.writers.of(view.value)?, from, to) {
             let id = self.unseen(*write, view.read)??;
             needs.push(Need::Step(id)).ok()?;
         }
@@ -72,7 +72,7 @@ impl Search {
     // How a write is hidden from the read: by a later one of its process, where one is before the read.
     fn hiding(&self, view: &ReadView, write: u32) -> Option<Need> {
         let read = view.read;
-        let (process, _) = self.numbering.spot(write)?;
+        let (process, _) = self.given.numbering.spot(write)?;
         if let Some(from) = *view.last_writes.get(process as usize)?
             && from > write
         {
@@ -94,6 +94,7 @@ impl Search {
     // before the read, or what another read tells.
     fn add_first(&self, needs: &mut Vec<Need>, view: &ReadView) -> Option<()> {
         let is_known = self
+            .given
             .values
             .first(view.cell)?
             .is_some_and(|first| first != view.value);

@@ -1,5 +1,4 @@
 //! A short refutation.
-use crate::cases::Ending;
 use crate::conflict::Conflict;
 use crate::gathering::gather;
 use crate::search::{Search, Sought};
@@ -44,20 +43,11 @@ pub fn find_cycle(
 
 // Without cases first, since what is found so is short.
 fn refute(search: &mut Search) -> Option<Conflict> {
-    match search.run()? {
-        Some(contradiction) => search.explain(contradiction),
-        None => refute_by_cases(search),
+    if let Some(contradiction) = search.run()? {
+        return search.explain(contradiction);
     }
-}
-
-fn refute_by_cases(search: &mut Search) -> Option<Conflict> {
     search.fuel = search.fuel.min(MOST_FUEL);
-    search.look_back()?;
-    search.touch_all()?;
-    match search.try_cases()? {
-        Ending::Contradiction(conflict) => Some(conflict),
-        Ending::Settled => None,
-    }
+    search.try_cases()?
 }
 
 fn fuel_for(lengths: &Lengths) -> u64 {

@@ -22,25 +22,15 @@ struct Gathering<'a> {
     lines: Lines,
 }
 
-/// The lines that end with an operation before itself, of all that the contradiction needs.
+/// The lines that end with an operation before itself, of all that the contradiction needs. Of one under suppositions that is the
+/// block that shows that not all of what contradicts itself is so: it names the lines outside of it by their steps, and the ends
+/// of earlier blocks by their clauses.
 pub(crate) fn gather(alloc: Global, search: &Search, conflict: &Conflict) -> Option<Derivation> {
-    let mut gathering = Gathering::new(alloc, search, conflict)?;
-    gathering.need_contradiction()?;
-    gathering.need_all()?;
-    gathering.write_all()?;
-    gathering.close()?;
-    let Gathering { lines, .. } = gathering;
-    Some(lines.derivation)
-}
-
-/// The block that shows that not all of what contradicts itself is so. It names the lines outside of it by their steps, and
-/// the ends of earlier blocks by their clauses.
-pub(crate) fn draft(alloc: Global, search: &Search, conflict: &Conflict) -> Option<Derivation> {
     let mut gathering = Gathering::new(alloc, search, conflict)?;
     gathering.suppose()?;
     gathering.need_contradiction()?;
-    gathering.need_steps()?;
-    gathering.write_steps()?;
+    gathering.need_all()?;
+    gathering.write_all()?;
     gathering.close()?;
     let Gathering { lines, .. } = gathering;
     Some(lines.derivation)
@@ -118,17 +108,17 @@ impl<'a> Gathering<'a> {
         Some(())
     }
 
-    // Marks the steps that are needed, from the newest on.
-    fn need_steps(&mut self) -> Option<()> {
-        for back in 0..=self.conflict.contradiction {
-            self.need_all_of(self.conflict.contradiction.checked_sub(back)?)?;
+    // How many blocks may be written: none within a block.
+    fn blocks(&self) -> Option<u32> {
+        if self.conflict.level > 0 {
+            return Some(0);
         }
-        Some(())
+        self.search.clauses.len()
     }
 
     // Marks the steps and the clauses that are needed, from the newest on.
     fn need_all(&mut self) -> Option<()> {
-        let mut clauses = self.search.clauses.len()?;
+        let mut clauses = self.blocks()?;
         let count = self.conflict.contradiction.checked_add(1)?;
         for back in 0..=count {
             let left = count.checked_sub(back)?;
@@ -189,14 +179,6 @@ impl<'a> Gathering<'a> {
         Some(())
     }
 
-    // Writes the steps that are needed, from the oldest on.
-    fn write_steps(&mut self) -> Option<()> {
-        for id in 0..=self.conflict.contradiction {
-            self.write(id)?;
-        }
-        Some(())
-    }
-
     // Writes the blocks and the steps that are needed, from the oldest on.
     fn write_all(&mut self) -> Option<()> {
         let mut clauses = 0;
@@ -209,7 +191,7 @@ impl<'a> Gathering<'a> {
 
     // Writes the blocks that need nothing from this step on. How many clauses are done.
     fn write_blocks(&mut self, clauses: u32, id: u32) -> Option<u32> {
-        let count = self.search.clauses.len()?;
+        let count = self.blocks()?;
         for k in clauses..count {
             if self.search.clauses.base(k)? > id {
                 return Some(k);

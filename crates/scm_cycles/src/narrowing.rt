@@ -7,8 +7,8 @@ use scm_sequences::MOST_PROCESSES;
 /// How many operations of each process come before some write of the cell that comes before the read, and whether there is
 /// such a write.
 #[derive(Clone, Copy)]
-struct Hidden {
-    counts: [u32; MOST_PROCESSES],
+pub(crate) struct Hidden {
+    pub(crate) counts: [u32; MOST_PROCESSES],
     is_written: bool,
 }
 
@@ -45,19 +45,19 @@ impl Search {
 
     // The same in one process, so many of whose operations are hidden. How many writes are left there.
     fn narrow_process(&mut self, read: u32, value: u32, process: u32, hidden: u32) -> Option<u32> {
-        let old = self.candidates.as_ref()?.get(read, process)?;
+        let old = self.candidates.get(read, process)?;
         if old.len() == 0 {
             return Some(0);
         }
         let new = self.narrowed(old, read, value, process, hidden)?;
         if new != old {
-            let steps = self.candidates.as_mut()?.set(read, process, new)?;
+            let steps = self.candidates.set(read, process, new)?;
             self.burn_for(steps)?;
         }
         Some(new.len())
     }
 
-    fn hidden(&self, read: u32, cell: u32) -> Option<Hidden> {
+    pub(crate) fn hidden(&self, read: u32, cell: u32) -> Option<Hidden> {
         let mut hidden = Hidden {
             counts: [0; MOST_PROCESSES],
             is_written: false,
@@ -79,17 +79,17 @@ impl Search {
         process: u32,
         hidden: u32,
     ) -> Option<Bounds> {
-        let start = self.numbering.number(process, 0)?;
+        let start = self.given.numbering.number(process, 0)?;
         let first = start.checked_add(hidden)?;
         let end = start.checked_add(self.after(read, process)?)?;
         let low = self.first_left(bounds, read, value, first)?;
         let high = self.end_left(Bounds { low, ..bounds }, read, value, end)?;
-        Bounds::new(self.writers.of(value)?, low, high)
+        Bounds::new(self.given.writers.of(value)?, low, high)
     }
 
     // Where the first write from `first` on stands that no step rules out.
     fn first_left(&self, bounds: Bounds, read: u32, value: u32, first: u32) -> Option<u32> {
-        let writers = self.writers.of(value)?;
+        let writers = self.given.writers.of(value)?;
         for at in bounds.low..bounds.high {
             let write = *writers.get(at as usize)?;
             if write >= first && self.unseen(write, read)?.is_none() {
@@ -101,7 +101,7 @@ impl Search {
 
     // Where those end that come before `end` and that no step rules out.
     fn end_left(&self, bounds: Bounds, read: u32, value: u32, end: u32) -> Option<u32> {
-        let writers = self.writers.of(value)?;
+        let writers = self.given.writers.of(value)?;
         for back in 0..bounds.len() {
             let high = bounds.high.checked_sub(back)?;
             let write = *writers.get(high.checked_sub(1)? as usize)?;
@@ -124,13 +124,7 @@ impl Search {
     // Whether all that is left comes after more than what the read is known to come after.
     fn is_after_more(&self, read: u32) -> Option<bool> {
         let mut least = [u32::MAX; MOST_PROCESSES];
-        for (bounds, process) in self
-            .candidates
-            .as_ref()?
-            .row(read)?
-            .iter()
-            .zip(0..self.procs)
-        {
+        for (bounds, process) in self.candidates.row(read)?.iter().zip(0..self.procs) {
             if let Some((first, _)) = bounds.ends {
                 self.lower_to(&mut least, first, process)?;
             }
@@ -151,7 +145,7 @@ impl Search {
     // Whether all that is left comes before a write of the cell that the read isn't known to come before.
     fn is_before_more(&self, read: u32, cell: u32) -> Option<bool> {
         let places = self.after_all_left(read)?;
-        let (owner, _) = self.numbering.spot(read)?;
+        let (owner, _) = self.given.numbering.spot(read)?;
         for (process, place) in (0..self.procs).zip(places) {
             let known = self.after(read, process)?;
             if process != owner && self.is_written(process, cell, place, known)? {
@@ -164,9 +158,9 @@ impl Search {
     // From which place on the operations of each process come after all writes that are left for the read.
     fn after_all_left(&self, read: u32) -> Option<[u32; MOST_PROCESSES]> {
         let mut places = [0; MOST_PROCESSES];
-        for bounds in self.candidates.as_ref()?.row(read)? {
+        for bounds in self.candidates.row(read)? {
             if let Some((_, last)) = bounds.ends {
-                raise_to(&mut places, self.afters.as_ref()?.row(last)?);
+                raise_to(&mut places, self.afters.row(last)?);
             }
         }
         Some(places)

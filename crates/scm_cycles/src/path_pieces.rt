@@ -75,7 +75,7 @@ impl Search {
     }
 
     fn is_up_to(&self, x: u32, y: u32) -> Option<bool> {
-        let ((p, at), (q, place)) = (self.numbering.spot(x)?, self.numbering.spot(y)?);
+        let ((p, at), (q, place)) = (self.given.numbering.spot(x)?, self.given.numbering.spot(y)?);
         Some(p == q && at <= place)
     }
 }

@@ -2,7 +2,7 @@
 use crate::claims::{Claim, Kind};
 use crate::drawn_steps::{Need, Why};
 use crate::evidence::Goal;
-use crate::read_views::{ReadView, SourcesLeft};
+use crate::read_views::ReadView;
 use crate::search::Search;
 use crate::waiting::News;
 
@@ -24,9 +24,9 @@ impl Search {
 
     fn visit_all(&mut self) -> Option<()> {
         for x in 0..self.ops {
-            if let Some(value) = self.values.found(x) {
+            if let Some(value) = self.given.values.found(x) {
                 self.burn(self.procs)?;
-                let cell = self.numbering.cell(x)?;
+                let cell = self.given.numbering.cell(x)?;
                 self.visit(x, cell, value)?;
             }
             if self.contradiction.is_some() {
@@ -52,33 +52,32 @@ impl Search {
     }
 
     fn visit_open(&mut self, read: u32, cell: u32, value: u32) -> Option<()> {
-        if self.candidates.is_some() {
-            self.burn(self.procs.saturating_mul(OPEN_VISIT))?;
-            let left = self.narrow(read, cell, value)?;
-            self.note_left(read, left.len())?;
-            if !self.is_telling(read, cell, left)? {
-                return Some(());
-            }
+        self.burn(self.procs.saturating_mul(OPEN_VISIT))?;
+        let left = self.narrow(read, cell, value)?;
+        self.note_left(read, left.len())?;
+        if !self.is_telling(read, cell, left)? {
+            return Some(());
         }
         self.burn(self.procs.checked_mul(self.procs)?)?;
-        let view = self.view(read, cell, value)?;
-        self.look(&view)
+        let view = self.view(read, cell, value, left)?;
+        self.look(&view, left.writes)
     }
 
     // Draws what follows from what is left for the read.
-    fn look(&mut self, view: &ReadView) -> Option<()> {
-        match view.left() {
-            SourcesLeft::Nothing if !view.is_first_left => {
+    fn look(&mut self, view: &ReadView, writes: u32) -> Option<()> {
+        match writes {
+            0 if !view.is_first_left => {
                 let claim = Claim::before(view.read, view.read);
                 self.draw_by(view, claim, Why::AfterAll, Goal::Nothing)?;
             }
-            SourcesLeft::Only(write) if !view.is_first_left => {
+            1 if !view.is_first_left => {
+                let (write, _) = view.shares.iter().filter_map(|share| share.left).next()?;
                 let claim = Claim::sees(write, view.read);
                 let id = self.draw_by(view, claim, Why::Source, Goal::Nothing)?;
                 self.settle(claim, id)?;
             }
-            left => {
-                if let SourcesLeft::Nothing = left {
+            _ => {
+                if writes == 0 {
                     self.settle_first(view)?;
                 }
                 self.draw_around(view)?;
@@ -95,7 +94,9 @@ impl Search {
 
     // The read sees first contents: of an unset cell that is news for other reads.
     fn settle_first(&mut self, view: &ReadView) -> Option<()> {
-        if self.read_facts.first(view.cell)?.is_some() || self.values.first(view.cell)?.is_some() {
+        if self.read_facts.first(view.cell)?.is_some()
+            || self.given.values.first(view.cell)?.is_some()
+        {
             return Some(());
         }
         let needs = self.needs(view, Goal::Nothing)?;
@@ -129,7 +130,7 @@ impl Search {
             count = count.min(self.up_to(first, process)?);
         }
         if count > self.before(view.read, process)? {
-            let from = self.numbering.number(process, count.checked_sub(1)?)?;
+            let from = self.given.numbering.number(process, count.checked_sub(1)?)?;
             let claim = Claim::before(from, view.read);
             self.draw_by(view, claim, Why::AfterAll, Goal::After(from))?;
         }
@@ -152,12 +153,13 @@ impl Search {
 
     // The first write of another process than the read's to the cell, from a place on.
     fn write_from(&self, read: u32, cell: u32, process: u32, place: u32) -> Option<u32> {
-        let (owner, _) = self.numbering.spot(read)?;
+        let (owner, _) = self.given.numbering.spot(read)?;
         if owner == process {
             return None;
         }
-        self.numbering
-            .number(process, self.writes.from(process, cell, place)?)
+        self.given
+            .numbering
+            .number(process, self.given.writes.from(process, cell, place)?)
     }
 
     // Draws what follows from what is seen.
@@ -232,7 +234,7 @@ impl Search {
         process: u32,
     ) -> Option<()> {
         let (place, known) = (self.after(write, process)?, self.after(read, process)?);
-        let (owner, _) = self.numbering.spot(read)?;
+        let (owner, _) = self.given.numbering.spot(read)?;
         if owner == process || !self.is_written(process, cell, place, known)? {
             return Some(());
         }
@@ -247,6 +249,9 @@ impl Search {
         if from >= to {
             return Some(false);
         }
-        Some(self.writes.count(process, cell, from)? < self.writes.count(process, cell, to)?)
+        Some(
+            self.given.writes.count(process, cell, from)?
+                < self.given.writes.count(process, cell, to)?,
+        )
     }
 }

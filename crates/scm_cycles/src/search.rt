@@ -1,5 +1,5 @@
 //! What comes before what in every legal schedule, as far as it was drawn.
-use crate::backward::lower;
+use crate::backward::afters_of;
 use crate::candidates::Candidates;
 use crate::cases::Restarts;
 use crate::choices::Choices;
@@ -10,12 +10,15 @@ use crate::read_facts::ReadFacts;
 use crate::rises::Rises;
 use crate::trail::Trail;
 use crate::waiting::Waiting;
-use scm_clocks::{Clocks, Flags, Given, Numbering, Values, Writers, Writes, is_covered};
+use scm_clocks::{Clocks, Flags, Given, is_covered};
 use scm_orders::Place;
 use std::alloc::Global;
 
 /// How many changes can be taken back at most, for each number of the clocks. A search that has more gives up.
 const CHANGES_OF_NUMBER: u64 = 64;
+
+/// How much is burnt for each number of the clocks, and for what is left there.
+const BURNT_OF_NUMBER: u64 = 3;
 
 /// How many entries of a list are looked at as fast as one unit of fuel is burnt.
 const STEPS_OF_FUEL: usize = 32;
@@ -35,12 +38,7 @@ pub(crate) enum Sought {
 pub(crate) struct Search {
     pub(crate) alloc: Global,
     pub(crate) sought: Sought,
-    pub(crate) numbering: Numbering,
-    pub(crate) values: Values,
-    pub(crate) writes: Writes,
-    pub(crate) writers: Writers,
-    /// How many operations each process has in the whole trace.
-    pub(crate) trace_lengths: Vec<u32>,
+    pub(crate) given: Given,
     pub(crate) steps: DrawnSteps,
     pub(crate) procs: u32,
     pub(crate) ops: u32,
@@ -55,10 +53,10 @@ pub(crate) struct Search {
     /// The step by which processes don't get far ahead of each other, where that is supposed.
     pub(crate) skew: Option<u32>,
     pub(crate) clocks: Clocks,
-    /// For each operation, from which place on the operations of each process come after it: once cases are tried.
-    pub(crate) afters: Option<Clocks>,
-    /// What is left for reads to see: once cases are tried.
-    pub(crate) candidates: Option<Candidates>,
+    /// For each operation, from which place on the operations of each process come after it.
+    pub(crate) afters: Clocks,
+    /// What is left for reads to see.
+    pub(crate) candidates: Candidates,
     pub(crate) rises: Rises,
     /// What has new clocks to bring to those after it.
     pub(crate) flags: Flags,
@@ -68,108 +66,39 @@ pub(crate) struct Search {
     most_changes: u64,
 }
 
-/// What a search writes on, and its sizes.
-#[derive(Drop)]
-struct Workspace {
-    procs: u32,
-    ops: u32,
-    fuel: u64,
-    most_changes: u64,
-    steps: DrawnSteps,
-    read_facts: ReadFacts,
-    waiting: Waiting,
-    choices: Choices,
-    clauses: Clauses,
-    clocks: Clocks,
-    rises: Rises,
-    flags: Flags,
-}
-
-impl Workspace {
-    fn new(alloc: Global, given: &Given, fuel: u64) -> Option<Workspace> {
+impl Search {
+    pub(crate) fn new(alloc: Global, sought: Sought, given: Given, fuel: u64) -> Option<Search> {
         let (procs, ops) = (given.numbering.procs()?, given.numbering.len()?);
         let cells = u32::try_from(given.values.firsts().len()).ok()?;
         let numbers = u64::from(ops).checked_mul(u64::from(procs))?;
-        Some(Workspace {
-            procs,
-            ops,
-            fuel: fuel.checked_sub(numbers)?,
-            most_changes: numbers.checked_mul(CHANGES_OF_NUMBER)?,
-            steps: DrawnSteps::new(alloc, ops)?,
-            read_facts: ReadFacts::new(alloc, ops, cells)?,
-            waiting: Waiting::new(alloc, ops)?,
-            choices: Choices::new(alloc, ops)?,
-            clauses: Clauses::new(alloc, ops)?,
-            clocks: Clocks::new(alloc, &given.numbering)?,
-            rises: Rises::new(alloc, procs)?,
-            flags: Flags::new(alloc, ops)?,
-        })
-    }
-}
-
-impl Search {
-    pub(crate) fn new(alloc: Global, sought: Sought, given: Given, fuel: u64) -> Option<Search> {
-        let workspace = Workspace::new(alloc, &given, fuel)?;
-        let Given {
-            numbering,
-            values,
-            writes,
-            writers,
-            trace_lengths,
-        } = given;
         Some(Search {
             alloc,
             sought,
-            numbering,
-            values,
-            writes,
-            writers,
-            trace_lengths,
-            steps: workspace.steps,
-            procs: workspace.procs,
-            ops: workspace.ops,
-            read_facts: workspace.read_facts,
-            waiting: workspace.waiting,
+            steps: DrawnSteps::new(alloc, ops)?,
+            procs,
+            ops,
+            read_facts: ReadFacts::new(alloc, ops, cells)?,
+            waiting: Waiting::new(alloc, ops)?,
             trail: Trail::new(alloc),
-            choices: workspace.choices,
-            clauses: workspace.clauses,
+            choices: Choices::new(alloc, ops)?,
+            clauses: Clauses::new(alloc, ops)?,
             restarts: Restarts::FIRST,
             skew: None,
-            clocks: workspace.clocks,
-            afters: None,
-            candidates: None,
-            rises: workspace.rises,
-            flags: workspace.flags,
+            clocks: Clocks::new(alloc, &given.numbering)?,
+            afters: afters_of(alloc, &given.numbering)?,
+            candidates: Candidates::new(alloc, &given)?,
+            rises: Rises::new(alloc, procs)?,
+            flags: Flags::new(alloc, ops)?,
             contradiction: None,
-            fuel: workspace.fuel,
-            most_changes: workspace.most_changes,
+            fuel: fuel.checked_sub(numbers.checked_mul(BURNT_OF_NUMBER)?)?,
+            most_changes: numbers.checked_mul(CHANGES_OF_NUMBER)?,
+            given,
         })
-    }
-
-    /// What it began with, and the clocks.
-    pub(crate) fn into_parts(self) -> (Given, Clocks) {
-        let Search {
-            numbering,
-            values,
-            writes,
-            writers,
-            trace_lengths,
-            clocks,
-            ..
-        } = self;
-        let given = Given {
-            numbering,
-            values,
-            writes,
-            writers,
-            trace_lengths,
-        };
-        (given, clocks)
     }
 
     /// Where an operation stands.
     pub(crate) fn place(&self, x: u32) -> Option<Place> {
-        let (process, at) = self.numbering.spot(x)?;
+        let (process, at) = self.given.numbering.spot(x)?;
         let process = u8::try_from(process).ok()?;
         Some(Place { process, at })
     }
@@ -181,7 +110,7 @@ impl Search {
 
     /// How many operations of a process come before `x` or are it.
     pub(crate) fn up_to(&self, x: u32, process: u32) -> Option<u32> {
-        let (owner, at) = self.numbering.spot(x)?;
+        let (owner, at) = self.given.numbering.spot(x)?;
         if owner == process {
             at.checked_add(1)
         } else {
@@ -191,31 +120,12 @@ impl Search {
 
     /// From which place on the operations of a process come after `x`.
     pub(crate) fn after(&self, x: u32, process: u32) -> Option<u32> {
-        match &self.afters {
-            Some(afters) => afters.get(x, process),
-            None => self.search_after(x, process),
-        }
-    }
-
-    fn search_after(&self, x: u32, process: u32) -> Option<u32> {
-        let (mut low, mut high) = (0, self.numbering.count(process)?);
-        for _ in 0..high {
-            if low >= high {
-                break;
-            }
-            let middle = low.midpoint(high);
-            if self.is_before(x, self.numbering.number(process, middle)?)? {
-                high = middle;
-            } else {
-                low = middle.checked_add(1)?;
-            }
-        }
-        Some(low)
+        self.afters.get(x, process)
     }
 
     /// Whether `x` is known to come before `y`.
     pub(crate) fn is_before(&self, x: u32, y: u32) -> Option<bool> {
-        let (process, at) = self.numbering.spot(x)?;
+        let (process, at) = self.given.numbering.spot(x)?;
         Some(self.before(y, process)? > at)
     }
 
@@ -223,14 +133,14 @@ impl Search {
     /// first: none where both are of one process, which has them in this order.
     pub(crate) fn path(&self, from: u32, to: u32) -> Option<Vec<u32>> {
         let mut path = Vec::new(self.alloc);
-        let (process, at) = self.numbering.spot(from)?;
+        let (process, at) = self.given.numbering.spot(from)?;
         let mut x = to;
         for _ in 0..=self.steps.len()? {
             if self.is_from(process, at, x, from != x || !path.is_empty())? {
                 path.reverse();
                 return Some(path);
             }
-            let spot = self.numbering.spot(x)?;
+            let spot = self.given.numbering.spot(x)?;
             let id = self.rises.first(spot, process, at.checked_add(1)?)?;
             path.push(id).ok()?;
             x = match self.skew {
@@ -243,7 +153,7 @@ impl Search {
 
     // Whether `x` stands at this place of this process, where that counts, or later there.
     fn is_from(&self, process: u32, at: u32, x: u32, counts: bool) -> Option<bool> {
-        let (owner, place) = self.numbering.spot(x)?;
+        let (owner, place) = self.given.numbering.spot(x)?;
         Some(owner == process && place >= at && counts)
     }
 
@@ -286,16 +196,8 @@ impl Search {
 
     // `None` where too much would have to be taken back.
     fn check_room(&self) -> Option<()> {
-        let narrowed = match &self.candidates {
-            Some(candidates) => candidates.changes(),
-            None => 0,
-        };
-        let lowered = match &self.afters {
-            Some(afters) => afters.changes(),
-            None => 0,
-        };
-        let changes = self.clocks.changes().checked_add(narrowed)?;
-        let changes = changes.checked_add(lowered)?;
+        let changes = self.clocks.changes().checked_add(self.afters.changes())?;
+        let changes = changes.checked_add(self.candidates.changes())?;
         self.most_changes.checked_sub(changes as u64)?;
         Some(())
     }
@@ -316,7 +218,7 @@ impl Search {
 
     // Puts `y` after `x` and all that comes before it, by this step.
     fn absorb(&mut self, y: u32, x: u32, id: u32) -> Option<()> {
-        let (owner, at) = self.numbering.spot(x)?;
+        let (owner, at) = self.given.numbering.spot(x)?;
         if self.before(y, owner)? > at && is_covered(self.clocks.row(x)?, self.clocks.row(y)?) {
             return Some(());
         }
@@ -336,26 +238,16 @@ impl Search {
     /// So many of a process come before `y`, by this step, and before what comes after `y` in its process. What steps lead on
     /// from is flagged.
     pub(crate) fn raise(&mut self, y: u32, process: u32, count: u32, id: u32) -> Option<()> {
-        let spot = self.numbering.spot(y)?;
+        let spot = self.given.numbering.spot(y)?;
         self.rises.add(spot, process, count, id)?;
         self.lower_afters(spot, process, count)?;
         let (owner, at) = spot;
-        for place in at..self.numbering.count(owner)? {
-            let x = self.numbering.number(owner, place)?;
+        for place in at..self.given.numbering.count(owner)? {
+            let x = self.given.numbering.number(owner, place)?;
             if self.before(x, process)? >= count {
                 break;
             }
             self.raise_clock(x, process, count)?;
-        }
-        Some(())
-    }
-
-    // Where it is kept from which places on operations come after others: those at the place come after the first `count` of the
-    // process.
-    fn lower_afters(&mut self, spot: (u32, u32), process: u32, count: u32) -> Option<()> {
-        if let Some(afters) = &mut self.afters {
-            let lowered = lower(afters, &self.numbering, spot, process, count)?;
-            self.burn(lowered)?;
         }
         Some(())
     }

@@ -19,24 +19,26 @@ impl Search {
         };
         let id = self.add(nothing, Why::Assumed, &[])?;
         self.skew = Some(id);
-        for back in 1..=self.ops {
+        for x in 0..self.ops {
             self.burn(self.procs)?;
-            self.suppose_at(self.ops.checked_sub(back)?, tenths, id)?;
+            self.suppose_at(x, tenths, id)?;
         }
         Some(())
     }
 
-    // At least so many operations of each process come before `x`. What comes after it has more before it already.
+    // At least so many operations of each process come before `x`. What comes after it gets as many in its turn.
     fn suppose_at(&mut self, x: u32, tenths: u64, id: u32) -> Option<()> {
-        let (owner, place) = self.numbering.spot(x)?;
-        let length = *self.trace_lengths.get(owner as usize)?;
+        let (owner, place) = self.given.numbering.spot(x)?;
+        let length = *self.given.trace_lengths.get(owner as usize)?;
         for process in 0..self.procs {
-            let other = *self.trace_lengths.get(process as usize)?;
+            let other = *self.given.trace_lengths.get(process as usize)?;
             let count = least_count(place, length, other, tenths)?.min(
-                self.numbering.count(process)?,
+                self.given.numbering.count(process)?,
             );
             if process != owner && count > self.before(x, process)? {
-                self.raise(x, process, count, id)?;
+                self.rises.add((owner, place), process, count, id)?;
+                self.lower_afters((owner, place), process, count)?;
+                self.clocks.set(x, process, count)?;
             }
         }
         Some(())

@@ -1,5 +1,4 @@
 //! What each read sees in some schedule, as a guess.
-use crate::cases::Ending;
 use crate::claims::Kind;
 use crate::search::{Search, Sought};
 use scm_clocks::{Clocks, Given};
@@ -51,7 +50,7 @@ pub fn find_sources(
         if settled.is_some() {
             return search.guess(skew_number);
         }
-        (given, _) = search.into_parts();
+        given = search.given;
     }
     None
 }
@@ -61,8 +60,8 @@ impl Search {
     // are left by any then.
     fn first_skew(&self) -> Option<u64> {
         let ops = u64::from(self.ops).saturating_add(1);
-        let cells = u64::try_from(self.values.firsts().len()).ok()?;
-        let values = u64::from(self.values.count()).saturating_add(1) / cells.max(1);
+        let cells = u64::try_from(self.given.values.firsts().len()).ok()?;
+        let values = u64::from(self.given.values.count()).saturating_add(1) / cells.max(1);
         let doublings = ops
             .saturating_mul(ops)
             .saturating_mul(values)
@@ -85,21 +84,18 @@ impl Search {
             let growth = first.saturating_mul(skew_number).checked_div(divisor)?;
             self.suppose_skew(first.saturating_add(growth))?;
         }
-        self.look_back()?;
-        self.touch_all()?;
         match self.try_cases()? {
-            Ending::Contradiction(_) => None,
-            Ending::Settled => Some(()),
+            Some(_) => None,
+            None => Some(()),
         }
     }
 
     fn guess(self, skew_number: u64) -> Option<Guess> {
         let sources = self.sources()?;
-        let (given, clocks) = self.into_parts();
         Some(Guess {
-            given,
+            given: self.given,
             sources,
-            clocks,
+            clocks: self.clocks,
             skew_number,
         })
     }
@@ -107,7 +103,7 @@ impl Search {
     fn sources(&self) -> Option<Vec<Option<u32>>> {
         let mut sources = Vec::new(self.alloc);
         for x in 0..self.ops {
-            let source = match self.values.found(x) {
+            let source = match self.given.values.found(x) {
                 Some(_) => Some(self.source(x)?),
                 None => None,
             };
@@ -124,6 +120,6 @@ impl Search {
                 return Some(claim.from);
             }
         }
-        self.ops.checked_add(self.numbering.cell(read)?)
+        self.ops.checked_add(self.given.numbering.cell(read)?)
     }
 }

@@ -20,7 +20,7 @@ impl Search {
     pub(crate) fn touch_all(&mut self) -> Option<()> {
         self.waiting.note();
         for x in 0..self.ops {
-            if self.values.found(x).is_some() {
+            if self.given.values.found(x).is_some() {
                 self.touch(x)?;
             }
         }
@@ -29,7 +29,7 @@ impl Search {
 
     /// What comes before this operation, or after it, has changed: that concerns it and the reads that see it, or may see it.
     pub(crate) fn touch_around(&mut self, x: u32, side: Side) -> Option<()> {
-        if self.values.found(x).is_some()
+        if self.given.values.found(x).is_some()
             && (side == Side::Before || self.read_facts.source(x)?.is_none())
         {
             self.touch(x)?;
@@ -42,10 +42,9 @@ impl Search {
 
     // Reads that the write is the first one that is left for, of its process, or the last one.
     fn touch_open(&mut self, write: u32, side: Side) -> Option<()> {
-        let candidates = self.candidates.as_ref()?;
         let users = match side {
-            Side::Before => candidates.firsts.of(write)?,
-            Side::After => candidates.lasts.of(write)?,
+            Side::Before => self.candidates.firsts.of(write)?,
+            Side::After => self.candidates.lasts.of(write)?,
         };
         let count = users.len();
         for read in users {
@@ -81,7 +80,7 @@ impl Search {
             let (start, end) = (self.before(to, process)?, self.up_to(from, process)?);
             self.burn(end.saturating_sub(start))?;
             for at in start..end {
-                let x = self.numbering.number(process, at)?;
+                let x = self.given.numbering.number(process, at)?;
                 self.touch_around(x, Side::After)?;
             }
         }
@@ -95,7 +94,7 @@ impl Search {
             return Some(());
         }
         for x in 0..self.ops {
-            if self.numbering.cell(x)? == cell && self.values.found(x).is_some() {
+            if self.given.numbering.cell(x)? == cell && self.given.values.found(x).is_some() {
                 self.touch(x)?;
             }
         }

@@ -51,9 +51,9 @@ impl Search {
             steps: self.steps.len()?,
             rises: self.rises.len(),
             changes: self.clocks.changes(),
-            afters: self.afters.as_ref()?.changes(),
+            afters: self.afters.changes(),
             lefts: self.trail.lefts.len(),
-            candidates: self.candidates.as_ref()?.changes(),
+            candidates: self.candidates.changes(),
         };
         self.trail.sizes.push(sizes).ok()
     }
@@ -72,9 +72,9 @@ impl Search {
 
     fn undo(&mut self, sizes: Sizes) -> Option<()> {
         self.clocks.take_back(sizes.changes)?;
-        self.afters.as_mut()?.take_back(sizes.afters)?;
+        self.afters.take_back(sizes.afters)?;
         self.rises.take_back(sizes.rises)?;
-        let steps = self.candidates.as_mut()?.take_back(sizes.candidates)?;
+        let steps = self.candidates.take_back(sizes.candidates)?;
         self.burn_for(steps)?;
         for _ in sizes.lefts..self.trail.lefts.len() {
             let (read, left) = self.trail.lefts.pop()?;
@@ -83,7 +83,7 @@ impl Search {
         for _ in sizes.steps..self.steps.len()? {
             let step = self.steps.take_back()?;
             let read = step.claim.to;
-            let cell = self.numbering.cell(read)?;
+            let cell = self.given.numbering.cell(read)?;
             self.read_facts.take_back(read, cell, self.steps.len()?)?;
         }
         Some(())

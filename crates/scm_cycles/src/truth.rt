@@ -57,7 +57,7 @@ impl Search {
             let (from, to) = (read, write);
             return Some(Some(Need::Order { from, to }));
         }
-        let cell = self.numbering.cell(read)?;
+        let cell = self.given.numbering.cell(read)?;
         for process in 0..self.procs {
             if let Some(by) = self.last_write(process, cell, read)
                 && self.is_before(write, by)?
@@ -72,7 +72,7 @@ impl Search {
         if let Some(id) = self.unseen_first(read)? {
             return Some(Some(Need::Step(id)));
         }
-        let cell = self.numbering.cell(read)?;
+        let cell = self.given.numbering.cell(read)?;
         for process in 0..self.procs {
             if let Some(from) = self.last_write(process, cell, read) {
                 return Some(Some(Need::Hiding { from, to: read }));
@@ -81,7 +81,7 @@ impl Search {
         let Some((value, id)) = self.read_facts.first(cell)? else {
             return Some(None);
         };
-        let is_other = self.values.found(read) != Some(value);
+        let is_other = self.given.values.found(read) != Some(value);
         Some(if is_other { Some(Need::Step(id)) } else { None })
     }
 
