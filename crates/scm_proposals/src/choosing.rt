@@ -37,7 +37,7 @@ impl GuidedWalk {
     // The next operation of a process, if it can be made.
     fn choice(&self, process: u32, is_last: bool) -> Option<RankedOperation> {
         let place = self.order.counts.get(process)?;
-        let x = self.order.facts.numbering.number(process, place)?;
+        let x = self.order.facts.given.numbering.number(process, place)?;
         if !self.is_ready(x)? || !self.finds(x)? {
             return None;
         }
@@ -61,7 +61,7 @@ impl GuidedWalk {
     // Whether `x` finds what it read, written by its source if that is known.
     fn finds(&self, x: u32) -> Option<bool> {
         let facts = &self.order.facts;
-        let cell = facts.numbering.cell(x)?;
+        let cell = facts.given.numbering.cell(x)?;
         let Some(found) = facts.found(x) else {
             return Some(true);
         };
@@ -77,7 +77,7 @@ impl GuidedWalk {
         if facts.is_harmless(x) {
             return Some(Rank::Harmless);
         }
-        let cell = facts.numbering.cell(x)?;
+        let cell = facts.given.numbering.cell(x)?;
         let writer = self.memory.writer(cell)?;
         let is_own = facts.source(x) == Some(writer);
         if self.is_barred(x, cell)? || self.remaining.readers.get(writer)? > u32::from(is_own) {

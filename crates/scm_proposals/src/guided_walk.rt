@@ -10,8 +10,8 @@ use std::alloc::Global;
 /// How many visits the consequences of one write may take.
 const SHARE: u64 = 20_000;
 
-/// What a walk gets of the fuel that is held back each time that it makes more operations than ever before: so much, and so
-/// much for each process. Walks that come to their end burn less on the whole.
+/// How much fuel a walk gets each time that it makes more operations than ever before: so much, and so much for each process.
+/// Walks that come to their end burn less on the whole.
 const INCOME: u64 = 4;
 
 const INCOME_OF_PROCESS: u64 = 3;
@@ -28,10 +28,9 @@ pub(crate) struct GuidedWalk {
     bars: Vec<Bar>,
     made: Vec<MadeOperation>,
     decisions: Vec<Decision>,
-    // The most operations that were made, how much fuel there may be at a time, and what is held back of it.
+    // The most operations that were made, and how much fuel there may be at a time.
     farthest: usize,
     patience: u64,
-    held_back: u64,
 }
 
 /// An operation that was made, and what its cell held before.
@@ -76,7 +75,6 @@ impl GuidedWalk {
             decisions: Vec::new(alloc),
             farthest: 0,
             patience,
-            held_back: 0,
         })
     }
 
@@ -90,7 +88,7 @@ impl GuidedWalk {
         self.order.spread()?;
         self.order.begin_walk();
         self.order.share = SHARE;
-        self.held_back = self.order.hold_back(self.patience);
+        self.order.fuel = self.order.fuel.min(self.patience);
         for _ in 0..u64::MAX {
             if self.made.len() == self.order.facts.ops as usize {
                 return Some(());
@@ -105,7 +103,7 @@ impl GuidedWalk {
         None
     }
 
-    // Gets some of the fuel that is held back where more operations are made than ever before.
+    // Gets fuel where more operations are made than ever before.
     fn earn(&mut self) {
         if self.made.len() <= self.farthest {
             return;
@@ -113,11 +111,8 @@ impl GuidedWalk {
         self.farthest = self.made.len();
         let income = u64::from(self.order.facts.procs)
             .saturating_mul(INCOME_OF_PROCESS)
-            .saturating_add(INCOME)
-            .min(self.held_back)
-            .min(self.patience.saturating_sub(self.order.fuel));
-        self.held_back = self.held_back.saturating_sub(income);
-        self.order.fuel = self.order.fuel.saturating_add(income);
+            .saturating_add(INCOME);
+        self.order.fuel = self.order.fuel.saturating_add(income).min(self.patience);
     }
 
     // Makes an operation, and takes it back where its consequences contradict each other.
@@ -169,7 +164,7 @@ impl GuidedWalk {
 
     // A write may not be made as long as its cell holds what it holds now.
     fn bar(&mut self, x: u32) -> Option<()> {
-        let cell = self.order.facts.numbering.cell(x)?;
+        let cell = self.order.facts.given.numbering.cell(x)?;
         let version = self.memory.version(cell)?;
         let before = self.barred.get(x)?;
         self.bars.push(Bar { x, before }).ok()?;
@@ -181,8 +176,8 @@ impl GuidedWalk {
     }
 
     fn make(&mut self, x: u32) -> Option<()> {
-        let (process, _) = self.order.facts.numbering.spot(x)?;
-        let cell = self.order.facts.numbering.cell(x)?;
+        let (process, _) = self.order.facts.given.numbering.spot(x)?;
+        let cell = self.order.facts.given.numbering.cell(x)?;
         let before = self.memory.before(cell)?;
         self.made.push(MadeOperation { x, process, before }).ok()?;
         self.last = process;
@@ -200,7 +195,7 @@ impl GuidedWalk {
 
     fn unmake(&mut self) -> Option<()> {
         let MadeOperation { x, process, before } = self.made.pop()?;
-        let cell = self.order.facts.numbering.cell(x)?;
+        let cell = self.order.facts.given.numbering.cell(x)?;
         self.order.counts.lower(process)?;
         self.remaining.add(&self.order.facts, x)?;
         self.memory.put_back(cell, before)
@@ -208,13 +203,13 @@ impl GuidedWalk {
 
     // Draws the consequences of a write that was just made: the next writes to its cell come after its readers.
     fn draw(&mut self, x: u32) -> Option<()> {
-        let cell = self.order.facts.numbering.cell(x)?;
+        let cell = self.order.facts.given.numbering.cell(x)?;
         for process in 0..self.order.facts.procs {
             let count = self.order.counts.get(process)?;
-            let Some(place) = self.order.facts.writes.from(process, cell, count) else {
+            let Some(place) = self.order.facts.given.writes.from(process, cell, count) else {
                 continue;
             };
-            let later = self.order.facts.numbering.number(process, place)?;
+            let later = self.order.facts.given.numbering.number(process, place)?;
             if self.order.put_after_readers(later, x)? {
                 self.order.flag(later)?;
                 self.order.flag_dependents(later)?;

@@ -26,7 +26,7 @@ impl Memory {
             writers: Numbers::zeros(alloc, facts.cells)?,
             versions: Numbers::zeros(alloc, facts.cells)?,
         };
-        for first in facts.values.firsts() {
+        for first in facts.given.values.firsts() {
             memory.contents.push(*first).ok()?;
         }
         for cell in 0..facts.cells {

@@ -7,6 +7,10 @@ use std::alloc::Global;
 /// How many operations of a process ahead are visited during the walk.
 const WINDOW: u32 = 24;
 
+/// How many visits and moves are made for each operation that is left: so many, and as many for each process; more only where
+/// the walk gets further. The walks that come to their end need a third of it.
+const MOST_VISITS: u64 = 8;
+
 /// The clocks of all operations, and how far each process has come. `None` from a method that raises clocks says that
 /// the order contradicts itself, or that the fuel is spent.
 #[derive(Drop)]
@@ -24,7 +28,11 @@ pub(crate) struct Order {
 
 impl Order {
     /// The order that these clocks tell, with all operations flagged.
-    pub(crate) fn new(alloc: Global, facts: Facts, clocks: Clocks, fuel: u64) -> Option<Order> {
+    pub(crate) fn new(alloc: Global, facts: Facts, clocks: Clocks) -> Option<Order> {
+        let most = u64::from(facts.procs)
+            .saturating_add(1)
+            .saturating_mul(MOST_VISITS);
+        let fuel = u64::from(facts.ops).saturating_mul(most);
         let mut order = Order {
             clocks,
             counts: Numbers::zeros(alloc, facts.procs)?,
@@ -50,7 +58,7 @@ impl Order {
     // Flags the operations at a place of all processes.
     fn flag_at(&mut self, place: u32) -> Option<()> {
         for process in 0..self.facts.procs {
-            if let Some(x) = self.facts.numbering.number(process, place) {
+            if let Some(x) = self.facts.given.numbering.number(process, place) {
                 self.flags.add(x)?;
             }
         }
@@ -63,13 +71,6 @@ impl Order {
         self.window = WINDOW;
     }
 
-    /// Leaves at most so much fuel, and gives what it held back.
-    pub(crate) fn hold_back(&mut self, kept: u64) -> u64 {
-        let held_back = self.fuel.saturating_sub(kept);
-        self.fuel = self.fuel.min(kept);
-        held_back
-    }
-
     pub(crate) fn burn(&mut self) -> Option<()> {
         self.fuel = self.fuel.checked_sub(1)?;
         self.visits = self.visits.saturating_add(1);
@@ -78,13 +79,13 @@ impl Order {
 
     /// Whether an operation was made.
     pub(crate) fn is_made(&self, x: u32) -> Option<bool> {
-        let (process, place) = self.facts.numbering.spot(x)?;
+        let (process, place) = self.facts.given.numbering.spot(x)?;
         Some(place < self.counts.get(process)?)
     }
 
     /// Flags an operation that lies within the window.
     pub(crate) fn flag(&mut self, x: u32) -> Option<()> {
-        let (process, place) = self.facts.numbering.spot(x)?;
+        let (process, place) = self.facts.given.numbering.spot(x)?;
         if place < self.counts.get(process)?.saturating_add(self.window) {
             self.flags.add(x)?;
         }
@@ -97,7 +98,7 @@ impl Order {
             .counts
             .get(process)?
             .saturating_add(self.window.saturating_sub(1));
-        if let Some(x) = self.facts.numbering.number(process, place) {
+        if let Some(x) = self.facts.given.numbering.number(process, place) {
             self.flags.add(x)?;
         }
         Some(())
@@ -106,14 +107,14 @@ impl Order {
     /// Flags the first operation of each process whose clock has this one, and the one after it, where this one's clock is
     /// news to it.
     pub(crate) fn flag_dependents(&mut self, x: u32) -> Option<()> {
-        let (owner, place) = self.facts.numbering.spot(x)?;
+        let (owner, place) = self.facts.given.numbering.spot(x)?;
         for process in 0..self.facts.procs {
             let first = if process == owner {
                 place.saturating_add(1)
             } else {
                 self.first_after(process, owner, place)?
             };
-            if let Some(y) = self.facts.numbering.number(process, first)
+            if let Some(y) = self.facts.given.numbering.number(process, first)
                 && !is_covered(self.clocks.row(x)?, self.clocks.row(y)?)
             {
                 self.flag(y)?;
@@ -128,13 +129,13 @@ impl Order {
         let mut low = self.counts.get(process)?;
         let mut high = low
             .saturating_add(self.window)
-            .min(self.facts.numbering.count(process)?);
+            .min(self.facts.given.numbering.count(process)?);
         for _ in 0..u32::BITS {
             if low >= high {
                 break;
             }
             let middle = low.midpoint(high);
-            let x = self.facts.numbering.number(process, middle)?;
+            let x = self.facts.given.numbering.number(process, middle)?;
             if self.clocks.get(x, owner)? > place {
                 high = middle;
             } else {
@@ -149,7 +150,7 @@ impl Order {
         if self.clocks.get(x, process)? >= count {
             return Some(false);
         }
-        let (owner, place) = self.facts.numbering.spot(x)?;
+        let (owner, place) = self.facts.given.numbering.spot(x)?;
         if owner == process {
             return None;
         }
@@ -165,7 +166,7 @@ impl Order {
 
     /// Puts `x` after `y` and all that comes before `y`. Whether something of that is new.
     pub(crate) fn absorb(&mut self, x: u32, y: u32) -> Option<bool> {
-        let (owner, place) = self.facts.numbering.spot(y)?;
+        let (owner, place) = self.facts.given.numbering.spot(y)?;
         let mut is_new = self.raise(x, owner, place.checked_add(1)?)?;
         if is_covered(self.clocks.row(y)?, self.clocks.row(x)?) {
             return Some(is_new);
@@ -179,7 +180,7 @@ impl Order {
 
     /// The same, but nothing is done where `x` is known to come after `y`.
     pub(crate) fn put_after(&mut self, x: u32, y: u32) -> Option<bool> {
-        let (owner, place) = self.facts.numbering.spot(y)?;
+        let (owner, place) = self.facts.given.numbering.spot(y)?;
         if self.clocks.get(x, owner)? > place {
             return Some(false);
         }

@@ -4,27 +4,17 @@ use crate::facts::Facts;
 use crate::fuel::{fuel_of_search, fuel_of_windows};
 use crate::guided_walk::GuidedWalk;
 use crate::order::Order;
+use crate::sources::single_sources;
 use scm_clocks::{Clocks, Given, Part};
 use scm_cycles::{Guess, SKEWS, find_sources};
 use scm_sequences::{Lengths, Sequences};
 use std::alloc::Global;
 
-/// How many visits and moves are made at most for each operation that is left: so many, and so many for each process. The
-/// walks that come to their end need a third of it.
-const MOST_WALK_FUEL: u64 = 8;
-
-const MOST_WALK_FUEL_OF_PROCESS: u64 = 8;
-
-/// How many are made for each operation, for each situation of the limit, and for any trace. One costs about as much as
-/// a situation that is searched.
-const WALK_FUEL: u64 = 8;
-
-const WALK_FUEL_OF_SITUATION: u64 = 2;
-
-const LEAST_WALK_FUEL: u64 = 10_000;
-
-/// For how many situations of the limit a walk makes one visit more where it makes no more operations than before.
+/// For how many situations of the limit a walk makes one visit more where it makes no more operations than before, and how many
+/// it makes there at least. One costs about as much as a situation that is searched.
 const SITUATIONS_OF_PATIENCE: usize = 8;
+
+const LEAST_PATIENCE: u64 = 10_000;
 
 /// How much fuel of the search a visit burns for each process.
 const PRICE_OF_VISIT: u64 = 2;
@@ -159,14 +149,21 @@ impl Proposer<'_> {
 
     /// A walk that goes on from so many places.
     fn walk(&self, kept: usize) -> Option<GuidedWalk> {
-        let facts = Facts::new(self.alloc, self.given(kept)?)?;
-        let clocks = Clocks::new(self.alloc, &facts.numbering)?;
-        self.walk_under(facts, clocks)
+        let mut given = self.given(kept)?;
+        let sources = single_sources(self.alloc, &mut given)?;
+        let clocks = Clocks::new(self.alloc, &given.numbering)?;
+        self.walk_by(given, sources, clocks)
     }
 
-    fn walk_under(&self, facts: Facts, clocks: Clocks) -> Option<GuidedWalk> {
-        let fuel = self.fuel(&facts);
-        let order = Order::new(self.alloc, facts, clocks, fuel)?;
+    // A walk in which reads have these sources, and that keeps these orders.
+    fn walk_by(
+        &self,
+        given: Given,
+        sources: Vec<Option<u32>>,
+        clocks: Clocks,
+    ) -> Option<GuidedWalk> {
+        let facts = Facts::new(self.alloc, given, sources)?;
+        let order = Order::new(self.alloc, facts, clocks)?;
         GuidedWalk::new(self.alloc, order, self.patience())
     }
 
@@ -178,9 +175,7 @@ impl Proposer<'_> {
             clocks,
             ..
         } = guess;
-        let mut facts = Facts::new(self.alloc, given)?;
-        facts.take_over(sources.as_slice())?;
-        let mut walk = self.walk_under(facts, clocks)?;
+        let mut walk = self.walk_by(given, sources, clocks)?;
         self.complete(0, &mut walk, fuel)
     }
 
@@ -201,18 +196,6 @@ impl Proposer<'_> {
     /// How many visits a walk makes at most where it makes no more operations than before.
     fn patience(&self) -> u64 {
         let patience = (self.limit / SITUATIONS_OF_PATIENCE) as u64;
-        patience.saturating_add(LEAST_WALK_FUEL)
-    }
-
-    /// The fuel for what is left.
-    fn fuel(&self, facts: &Facts) -> u64 {
-        let ops = u64::from(facts.ops);
-        let most = u64::from(facts.procs)
-            .saturating_mul(MOST_WALK_FUEL_OF_PROCESS)
-            .saturating_add(MOST_WALK_FUEL);
-        ops.saturating_mul(WALK_FUEL)
-            .saturating_add((self.limit as u64).saturating_mul(WALK_FUEL_OF_SITUATION))
-            .saturating_add(LEAST_WALK_FUEL)
-            .min(ops.saturating_mul(most))
+        patience.saturating_add(LEAST_PATIENCE)
     }
 }

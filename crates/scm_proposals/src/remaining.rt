@@ -19,8 +19,8 @@ impl Remaining {
     pub(crate) fn new(alloc: Global, facts: &Facts) -> Option<Remaining> {
         let mut remaining = Remaining {
             readers: Numbers::zeros(alloc, facts.ops.checked_add(facts.cells)?)?,
-            reads: Numbers::zeros(alloc, facts.values.count())?,
-            writes: Numbers::zeros(alloc, facts.values.count())?,
+            reads: Numbers::zeros(alloc, facts.given.values.count())?,
+            writes: Numbers::zeros(alloc, facts.given.values.count())?,
         };
         remaining.add_all(facts)?;
         Some(remaining)

@@ -49,7 +49,7 @@ impl Order {
     // The operation before `x` of its process, if that isn't made.
     fn before(&self, x: u32) -> Option<u32> {
         let y = x.checked_sub(1)?;
-        let (owner, place) = self.facts.numbering.spot(x)?;
+        let (owner, place) = self.facts.given.numbering.spot(x)?;
         if place > self.counts.get(owner)? {
             Some(y)
         } else {
@@ -87,7 +87,11 @@ impl Order {
             {
                 continue;
             }
-            let y = self.facts.numbering.number(process, count.checked_sub(1)?)?;
+            let y = self
+                .facts
+                .given
+                .numbering
+                .number(process, count.checked_sub(1)?)?;
             if y != x {
                 is_new = self.absorb(x, y)? || is_new;
             }
@@ -97,7 +101,7 @@ impl Order {
 
     // A write comes after all that read what an earlier write to its cell, or the first contents, left there.
     fn follow_readers(&mut self, x: u32) -> Option<bool> {
-        let cell = self.facts.numbering.cell(x)?;
+        let cell = self.facts.given.numbering.cell(x)?;
         let mut is_new = false;
         for process in 0..self.facts.procs {
             if let Some(earlier) = self.write_before(x, process, cell)? {
@@ -115,8 +119,8 @@ impl Order {
         if count <= made {
             return Some(None);
         }
-        match self.facts.writes.before(process, cell, count) {
-            Some(place) if place >= made => Some(self.facts.numbering.number(process, place)),
+        match self.facts.given.writes.before(process, cell, count) {
+            Some(place) if place >= made => Some(self.facts.given.numbering.number(process, place)),
             _ => Some(None),
         }
     }
@@ -126,7 +130,7 @@ impl Order {
         if is_covered(self.facts.sources.readers.row(writer)?, self.clocks.row(x)?) {
             return Some(false);
         }
-        let (owner, place) = self.facts.numbering.spot(x)?;
+        let (owner, place) = self.facts.given.numbering.spot(x)?;
         let is_own = self.facts.source(x) == Some(writer);
         let mut is_new = false;
         for process in 0..self.facts.procs {
@@ -136,7 +140,11 @@ impl Order {
                     return None;
                 }
             } else if count > self.counts.get(process)? {
-                let reader = self.facts.numbering.number(process, count.checked_sub(1)?)?;
+                let reader = self
+                    .facts
+                    .given
+                    .numbering
+                    .number(process, count.checked_sub(1)?)?;
                 is_new = self.put_after(x, reader)? || is_new;
             }
         }
@@ -145,7 +153,7 @@ impl Order {
 
     // A write to the cell that comes before the read `x` comes before its source.
     fn push_source(&mut self, x: u32, source: u32) -> Option<()> {
-        let cell = self.facts.numbering.cell(x)?;
+        let cell = self.facts.given.numbering.cell(x)?;
         let mut is_new = false;
         for process in 0..self.facts.procs {
             let Some(earlier) = self.write_before(x, process, cell)? else {
