@@ -57,9 +57,8 @@ pub(crate) struct Candidates {
     procs: u32,
     bounds: Vec<Bounds>,
     changes: Vec<BoundsChange>,
-    /// The reads that have a write as the first one that is left of its process, or as the last one.
-    pub(crate) firsts: Users,
-    pub(crate) lasts: Users,
+    firsts: Users,
+    lasts: Users,
 }
 
 impl Candidates {
@@ -133,6 +132,15 @@ impl Candidates {
     pub(crate) fn get(&self, read: u32, process: u32) -> Option<Bounds> {
         let at = self.place(read, process)?;
         self.bounds.get(at as usize).copied()
+    }
+
+    /// The reads that have a write as the first one that is left of its process, or else as the last one.
+    pub(crate) fn users(&self, write: u32, is_first: bool) -> Option<&[u32]> {
+        if is_first {
+            self.firsts.of(write)
+        } else {
+            self.lasts.of(write)
+        }
     }
 
     /// The bounds of all processes.
