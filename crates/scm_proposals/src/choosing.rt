@@ -1,6 +1,16 @@
 //! The choice of the next operation.
 use crate::guided_walk::GuidedWalk;
-use crate::rank::Rank;
+
+/// The kinds of operations that can be made, best first.
+#[derive(Clone, Copy, PartialEq, Eq, PartialOrd, Ord)]
+pub(crate) enum Rank {
+    /// It leaves its cell as it finds it.
+    Harmless,
+    /// It has to come next on its cell.
+    Forced,
+    /// Another write: how far its readers are away.
+    Read { distance: u32 },
+}
 
 /// An operation that can be made, and its rank.
 #[derive(Clone, Copy)]
@@ -13,18 +23,12 @@ impl GuidedWalk {
     /// The best operation that can be made, if there is one.
     pub(crate) fn choose(&self) -> Option<RankedOperation> {
         let procs = self.order.facts.procs;
-        let mut best = self.choice(self.last, true);
+        let mut best = self.choice(self.last);
         for process in 0..procs {
-            if let Some(
-                RankedOperation {
-                    rank: Rank::Harmless,
-                    ..
-                },
-            ) = best
-            {
+            if best.is_some_and(|choice| choice.rank == Rank::Harmless) {
                 break;
             }
-            let other = self.choice(process, false);
+            let other = self.choice(process);
             best = match (best, other) {
                 (Some(first), Some(second)) if second.rank < first.rank => Some(second),
                 (None, second) => second,
@@ -35,16 +39,15 @@ impl GuidedWalk {
     }
 
     // The next operation of a process, if it can be made.
-    fn choice(&self, process: u32, is_last: bool) -> Option<RankedOperation> {
+    fn choice(&self, process: u32) -> Option<RankedOperation> {
         let place = self.order.counts.get(process)?;
         let x = self.order.facts.given.numbering.number(process, place)?;
         if !self.is_ready(x)? || !self.finds(x)? {
             return None;
         }
-        let rank = self.rank(x)?;
         Some(RankedOperation {
             x,
-            rank: if is_last { rank } else { rank.elsewhere() },
+            rank: self.rank(x)?,
         })
     }
 
@@ -80,46 +83,15 @@ impl GuidedWalk {
         let cell = facts.given.numbering.cell(x)?;
         let writer = self.memory.writer(cell)?;
         let is_own = facts.source(x) == Some(writer);
-        if self.is_barred(x, cell)? || self.remaining.readers.get(writer)? > u32::from(is_own) {
+        if self.is_barred(x, cell)? || self.readers.get(writer)? > u32::from(is_own) {
             return None;
         }
         if is_own {
             return Some(Rank::Forced);
         }
-        if !self.may_overwrite(x, cell)? {
-            return None;
-        }
-        if self.is_unread(x, cell)? {
-            return Some(Rank::Unread);
-        }
         Some(Rank::Read {
             distance: self.distance(x)?,
         })
-    }
-
-    // Whether the value of the cell is written again, or nobody else reads it.
-    fn may_overwrite(&self, x: u32, cell: u32) -> Option<bool> {
-        let Some(value) = self.memory.value(cell) else {
-            return Some(true);
-        };
-        let facts = &self.order.facts;
-        let is_own = facts.source(x).is_none() && facts.found(x) == Some(value);
-        Some(
-            self.remaining.reads.get(value)? <= u32::from(is_own)
-                || self.remaining.writes.get(value)? > 0,
-        )
-    }
-
-    // Whether nobody reads what `x` writes, and nobody what it overwrites.
-    fn is_unread(&self, x: u32, cell: u32) -> Option<bool> {
-        let written = self.order.facts.written(x)?;
-        if self.remaining.readers.get(x)? > 0 || self.remaining.reads.get(written)? > 0 {
-            return Some(false);
-        }
-        match self.memory.value(cell) {
-            Some(value) => Some(self.remaining.reads.get(value)? == 0),
-            None => Some(true),
-        }
     }
 
     // How many operations have to be made until all readers of `x` are.

@@ -1,14 +1,9 @@
 //! The walk: one operation after the other.
-use crate::choosing::RankedOperation;
+use crate::choosing::{Rank, RankedOperation};
 use crate::memory::{Before, Memory};
 use crate::numbers::Numbers;
 use crate::order::Order;
-use crate::rank::Rank;
-use crate::remaining::Remaining;
 use std::alloc::Global;
-
-/// How many visits the consequences of one write may take.
-const SHARE: u64 = 20_000;
 
 /// How much fuel a walk gets each time that it makes more operations than ever before: so much, and so much for each process.
 /// Walks that come to their end burn less on the whole.
@@ -22,8 +17,9 @@ pub(crate) struct GuidedWalk {
     pub(crate) order: Order,
     pub(crate) memory: Memory,
     pub(crate) last: u32,
-    pub(crate) remaining: Remaining,
-    // For each write the version of its cell, and 1, at which it may not be made.
+    /// How many known readers of each writer are to be made.
+    pub(crate) readers: Numbers,
+    // For each write the writer of what its cell holds, and 1, over which it may not be made.
     barred: Numbers,
     bars: Vec<Bar>,
     made: Vec<MadeOperation>,
@@ -62,13 +58,14 @@ impl GuidedWalk {
     /// Before any operation. Where it makes no more operations than before, it burns no more than `patience`.
     pub(crate) fn new(alloc: Global, order: Order, patience: u64) -> Option<GuidedWalk> {
         let memory = Memory::new(alloc, &order.facts)?;
-        let remaining = Remaining::new(alloc, &order.facts)?;
+        let writers = order.facts.ops.checked_add(order.facts.cells)?;
+        let readers = order.facts.sources.counts(alloc, writers)?;
         let barred = Numbers::zeros(alloc, order.facts.ops)?;
         Some(GuidedWalk {
             order,
             memory,
             last: 0,
-            remaining,
+            readers,
             barred,
             bars: Vec::new(alloc),
             made: Vec::new(alloc),
@@ -87,7 +84,6 @@ impl GuidedWalk {
     pub(crate) fn make_all(&mut self) -> Option<()> {
         self.order.spread()?;
         self.order.begin_walk();
-        self.order.share = SHARE;
         self.order.fuel = self.order.fuel.min(self.patience);
         for _ in 0..u64::MAX {
             if self.made.len() == self.order.facts.ops as usize {
@@ -165,14 +161,14 @@ impl GuidedWalk {
     // A write may not be made as long as its cell holds what it holds now.
     fn bar(&mut self, x: u32) -> Option<()> {
         let cell = self.order.facts.given.numbering.cell(x)?;
-        let version = self.memory.version(cell)?;
+        let writer = self.memory.writer(cell)?;
         let before = self.barred.get(x)?;
         self.bars.push(Bar { x, before }).ok()?;
-        self.barred.set(x, version.checked_add(1)?)
+        self.barred.set(x, writer.checked_add(1)?)
     }
 
     pub(crate) fn is_barred(&self, x: u32, cell: u32) -> Option<bool> {
-        Some(self.barred.get(x)? == self.memory.version(cell)?.checked_add(1)?)
+        Some(self.barred.get(x)? == self.memory.writer(cell)?.checked_add(1)?)
     }
 
     fn make(&mut self, x: u32) -> Option<()> {
@@ -183,7 +179,9 @@ impl GuidedWalk {
         self.last = process;
         self.order.counts.raise(process)?;
         self.order.flag_entering(process)?;
-        self.remaining.remove(&self.order.facts, x)?;
+        if let Some(source) = self.order.facts.source(x) {
+            self.readers.lower(source)?;
+        }
         if let Some(found) = self.order.facts.found(x) {
             self.memory.hold(cell, found)?;
         }
@@ -197,7 +195,9 @@ impl GuidedWalk {
         let MadeOperation { x, process, before } = self.made.pop()?;
         let cell = self.order.facts.given.numbering.cell(x)?;
         self.order.counts.lower(process)?;
-        self.remaining.add(&self.order.facts, x)?;
+        if let Some(source) = self.order.facts.source(x) {
+            self.readers.raise(source)?;
+        }
         self.memory.put_back(cell, before)
     }
 

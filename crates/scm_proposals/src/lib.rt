@@ -13,8 +13,6 @@ mod memory;
 mod numbers;
 mod order;
 mod proposal;
-mod rank;
-mod remaining;
 mod saturation;
 mod sources;
 mod turn_ops;

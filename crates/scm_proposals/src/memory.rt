@@ -3,12 +3,11 @@ use crate::facts::Facts;
 use crate::numbers::Numbers;
 use std::alloc::Global;
 
-/// The contents of each cell, who wrote them, and how often the cell was written.
+/// The contents of each cell, and who wrote them.
 #[derive(Drop)]
 pub(crate) struct Memory {
     contents: Vec<Option<u32>>,
     writers: Numbers,
-    versions: Numbers,
 }
 
 /// What a cell held before an operation was made.
@@ -16,7 +15,6 @@ pub(crate) struct Memory {
 pub(crate) struct Before {
     value: Option<u32>,
     writer: u32,
-    version: u32,
 }
 
 impl Memory {
@@ -24,7 +22,6 @@ impl Memory {
         let mut memory = Memory {
             contents: Vec::new(alloc),
             writers: Numbers::zeros(alloc, facts.cells)?,
-            versions: Numbers::zeros(alloc, facts.cells)?,
         };
         for first in facts.given.values.firsts() {
             memory.contents.push(*first).ok()?;
@@ -45,25 +42,18 @@ impl Memory {
         self.writers.get(cell)
     }
 
-    /// How often the cell was written.
-    pub(crate) fn version(&self, cell: u32) -> Option<u32> {
-        self.versions.get(cell)
-    }
-
     /// What is to be put back to take the next write of the cell back.
     pub(crate) fn before(&self, cell: u32) -> Option<Before> {
         Some(Before {
             value: self.value(cell),
             writer: self.writer(cell)?,
-            version: self.version(cell)?,
         })
     }
 
     /// Takes the last write of the cell back.
     pub(crate) fn put_back(&mut self, cell: u32, before: Before) -> Option<()> {
         *self.contents.get_mut(cell as usize)? = before.value;
-        self.writers.set(cell, before.writer)?;
-        self.versions.set(cell, before.version)
+        self.writers.set(cell, before.writer)
     }
 
     /// A cell holds this value from now on, which was there or which an open cell took.
@@ -75,7 +65,6 @@ impl Memory {
     /// `x` writes this value.
     pub(crate) fn write(&mut self, cell: u32, x: u32, value: u32) -> Option<()> {
         self.hold(cell, value)?;
-        self.writers.set(cell, x)?;
-        self.versions.raise(cell)
+        self.writers.set(cell, x)
     }
 }

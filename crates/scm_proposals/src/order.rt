@@ -22,8 +22,6 @@ pub(crate) struct Order {
     pub(crate) window: u32,
     pub(crate) fuel: u64,
     pub(crate) visits: u64,
-    /// What is left of the fuel for one write's consequences.
-    pub(crate) share: u64,
 }
 
 impl Order {
@@ -40,7 +38,6 @@ impl Order {
             window: u32::MAX,
             fuel,
             visits: 0,
-            share: fuel,
             facts,
         };
         order.flag_all()?;

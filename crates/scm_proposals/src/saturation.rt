@@ -14,7 +14,7 @@ impl Order {
     }
 
     fn visit_flagged(&mut self) -> Option<()> {
-        for _ in 0..self.share {
+        for _ in 0..self.fuel {
             let Some(x) = self.flags.next() else {
                 return Some(());
             };

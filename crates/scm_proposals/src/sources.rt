@@ -1,4 +1,5 @@
 //! Where reads have their values from.
+use crate::numbers::Numbers;
 use scm_clocks::{Given, Grid};
 use std::alloc::Global;
 
@@ -63,6 +64,15 @@ impl Sources {
             }
         }
         Some(Sources { of, readers })
+    }
+
+    /// How many known readers each writer has, first contents too.
+    pub(crate) fn counts(&self, alloc: Global, writers: u32) -> Option<Numbers> {
+        let mut counts = Numbers::zeros(alloc, writers)?;
+        for source in self.of.iter().flatten() {
+            counts.raise(*source)?;
+        }
+        Some(counts)
     }
 
     /// The source of a read, if it is known.
