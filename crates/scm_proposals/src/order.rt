@@ -8,8 +8,8 @@ use std::alloc::Global;
 const WINDOW: u32 = 24;
 
 /// How many visits and moves are made for each operation that is left: so many, and as many for each process; more only where
-/// the walk gets further. The walks that come to their end need a third of it.
-const MOST_VISITS: u64 = 8;
+/// the walk gets further. The walks that come to their end need half of it.
+const MOST_VISITS: u64 = 5;
 
 /// The clocks of all operations, and how far each process has come. `None` from a method that raises clocks says that
 /// the order contradicts itself, or that the fuel is spent.
