@@ -34,17 +34,19 @@ pub struct Audit {
     pub totals_agreed: bool,
 }
 
-/// Whether each session with an entry has its pass among those given, each flag being that of a number.
-fn are_covered(given: &[bool; MOST_SESSIONS], entries: &[Entry]) -> bool
-    ensures { result ≡ list_all (λ entry. get_or given.now entry.session false) entries.now }
+/// Whether each session with an entry has its pass among those handed in, each flag being that of a number.
+fn are_covered(handed_in: &[bool; MOST_SESSIONS], entries: &[Entry]) -> bool
+    ensures { result ≡ list_all (λ entry. get_or handed_in.now entry.session false) entries.now }
 {
-    entries.iter().all(|entry| is_given(given, entry.session))
+    entries
+        .iter()
+        .all(|entry| is_handed_in(handed_in, entry.session))
 }
 
-fn is_given(given: &[bool; MOST_SESSIONS], number: u16) -> bool
-    ensures { result ≡ get_or given.now number false }
+fn is_handed_in(handed_in: &[bool; MOST_SESSIONS], number: u16) -> bool
+    ensures { result ≡ get_or handed_in.now number false }
 {
-    given.get(usize::from(number)).copied().unwrap_or(false)
+    handed_in.get(usize::from(number)).copied().unwrap_or(false)
 }
 
 /// Takes a pass apart, which fits the journal. Gives its number.
@@ -105,13 +107,13 @@ impl<B: BookNaming> Locked<B> {
             unissued: mut all,
             ..
         } = self;
-        let mut given = [false; MOST_SESSIONS];
+        let mut handed_in = [false; MOST_SESSIONS];
         for pass in passes {
             let number = take_in(length_word, &mut seat, &mut all, pass);
-            given[usize::from(number)] = true;
+            handed_in[usize::from(number)] = true;
         }
         made.audit(&mut all);
-        let agreed = are_covered(&given, book.entries());
+        let agreed = are_covered(&handed_in, book.entries());
         Audit {
             book,
             entered,

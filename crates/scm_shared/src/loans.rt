@@ -1,11 +1,16 @@
 //! Loans of the sets that a shared book has: none is lost, and those who wait for one are told once it is back.
-ghost use Rattle.std.specs.Prelude.{◌≡◌};
-ghost use Rattle.scm_book.specs.inner.Loans.{IsTakingBack};
-ghost use Rattle.scm_shared.specs.inner.Locking.{KeepsCounts};
+ghost use Rattle.std.specs.Prelude.{◌≡◌, IfErr, IfOk, None, Some, MatchResult};
+ghost use Rattle.std.specs.Option.{option_map};
+ghost use Rattle.scm_book.specs.Machine.{call_data, reply_data};
+ghost use Rattle.scm_book.specs.Journal.{IsCall};
+ghost use Rattle.scm_book.specs.inner.Loans.{IsLending, IsLendingForWork, IsTakingBack};
+ghost use Rattle.scm_shared.specs.Passes.{IsPassCall};
+ghost use Rattle.scm_shared.specs.inner.Locking.{KeepsCounts, IsSearchedCall};
 
-use crate::BookNaming;
+use crate::length_word::LengthWord;
 use crate::locked::Locked;
-use scm_book::Loan;
+use crate::{BookNaming, Pass};
+use scm_book::{Call, Loan, Outlook, Plan, Reply};
 use scm_expand::Bell;
 use std::marker::PhantomData;
 use std::sync::Wait;
@@ -17,7 +22,7 @@ pub(crate) struct BookLoan<B: BookNaming> {
 }
 
 impl<B: BookNaming> BookLoan<B> {
-    pub(crate) fn new(lent: Loan) -> BookLoan<B>
+    fn new(lent: Loan) -> BookLoan<B>
         ensures { result.lent ≡ lent }
     {
         BookLoan {
@@ -38,7 +43,7 @@ impl<B: BookNaming> BookLoan<B> {
     {
         let BookLoan { lent, of: _ } = self;
         locked.book.take_back(lent);
-        locked.returns = locked.returns.wrapping_add(1);
+        locked.taken_back = locked.taken_back.wrapping_add(1);
         CameBack { of: PhantomData }
     }
 }
@@ -46,6 +51,22 @@ impl<B: BookNaming> BookLoan<B> {
 /// That a set of the book came back. It has no `Drop` either: it is told.
 pub(crate) struct CameBack<B: BookNaming> {
     of: PhantomData<B>,
+}
+
+/// That a call's set was lent when it was looked for, with how many were taken back by then. Only that look makes it, and it has
+/// no `Drop` either: it is waited for.
+pub(crate) struct StillLent<B: BookNaming> {
+    taken_back: u64,
+    of: PhantomData<B>,
+}
+
+impl<B: BookNaming> StillLent<B> {
+    fn at(taken_back: u64) -> StillLent<B> {
+        StillLent {
+            taken_back,
+            of: PhantomData,
+        }
+    }
 }
 
 /// How often a new bell rang.
@@ -72,8 +93,58 @@ impl<B: BookNaming> SetBell<B> {
         self.bell.ring();
     }
 
-    /// Waits until it was told of more sets than had come back, by a look under the lock. It may come back earlier.
-    pub(crate) fn wait<R: Wait>(&self, rt: &R, returns: u64) {
-        let _rang = self.bell.wait(rt, returns.wrapping_add(RANG_AT_FIRST));
+    /// Waits until it was told of more sets than were taken back by the look. It may come back earlier.
+    pub(crate) fn wait<R: Wait>(&self, rt: &R, seen: StillLent<B>) {
+        let StillLent { taken_back, of: _ } = seen;
+        let _rang = self.bell.wait(rt, taken_back.wrapping_add(RANG_AT_FIRST));
+    }
+}
+
+impl<B: BookNaming> Locked<B> {
+    /// Makes the call where it is ready. Else it comes back: with its loan where it asks a question that is to be searched
+    /// without the lock first; where it has to wait for a set, with what was seen of it.
+    pub(crate) fn call_if_ready(
+        &mut self,
+        length_word: &LengthWord<B>,
+        pass: &mut Pass<B>,
+        call: Call,
+    ) -> Result<Reply, (Call, Result<BookLoan<B>, StillLent<B>>)>
+        ensures answered { IfOk result (λ reply. IsPassCall pass.old (call_data call) (reply_data reply) pass.new) }
+        ensures called { IfOk result (λ reply. IsCall self.old.book pass.old.number (call_data call) (reply_data reply) self.new.book) }
+        ensures asked { IfErr result (λ asked. call_data asked.0 ≡ call_data call) }
+        ensures lent { IfErr result (λ asked. MatchResult asked.1 (λ loan. IsLending self.old.book (call_data call) (Some loan.lent) self.new.book) (λ _. IsLending self.old.book (call_data call) None self.new.book)) }
+        ensures pass { IfErr result (λ _. pass.new ≡ pass.old) }
+        ensures counts { KeepsCounts self.old self.new }
+    {
+        match self.book.plan(&call) {
+            Plan::Ready(outlook) => Ok(self.call(length_word, pass, call, outlook)),
+            Plan::Waits => Err((call, Err(StillLent::at(self.taken_back)))),
+            Plan::Long(lent) => Err((call, Ok(BookLoan::new(lent)))),
+        }
+    }
+
+    /// Takes a question back that was lent, and makes its call. Of the set that came back those who wait for it are to be told.
+    pub(crate) fn call_searched(
+        &mut self,
+        length_word: &LengthWord<B>,
+        pass: &mut Pass<B>,
+        call: Call,
+        loan: BookLoan<B>,
+    ) -> (Reply, CameBack<B>)
+        ensures answered { IsPassCall pass.old (call_data call) (reply_data result.0) pass.new }
+        ensures book { IsSearchedCall self.old.book loan.lent pass.old.number (call_data call) (reply_data result.0) self.new.book }
+        ensures counts { KeepsCounts self.old self.new }
+    {
+        let back = loan.give_back(self);
+        (self.call(length_word, pass, call, Outlook::Unknown), back)
+    }
+
+    /// The set of a trace, lent for work.
+    pub(crate) fn lend_work(&mut self) -> Option<BookLoan<B>>
+        ensures book { IsLendingForWork self.old.book (option_map (λ loan. loan.lent) result) self.new.book }
+        ensures counts { KeepsCounts self.old self.new }
+    {
+        let lent = self.book.lend_work()?;
+        Some(BookLoan::new(lent))
     }
 }

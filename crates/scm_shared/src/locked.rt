@@ -1,25 +1,22 @@
 //! What lies under the lock of a shared book.
-ghost use Rattle.std.specs.Prelude.{◌≡◌, ◌+◌, ◌<◌, ◌≤◌, [], false, IfErr, IfOk, None, Some, MatchOption, MatchResult, vec_len};
-ghost use Rattle.std.specs.Option.{option_map};
+ghost use Rattle.std.specs.Prelude.{◌≡◌, ◌+◌, ◌<◌, ◌≤◌, [], IfErr, IfOk, None, Some, MatchOption, MatchResult, vec_len};
 ghost use Rattle.scm_sequences.specs.declared.refusal.Refusal.TheVariants.{TooManySessions};
 ghost use Rattle.scm_sequences.specs.declared.limits.TheConstants.{MOST_SESSIONS};
 ghost use Rattle.scm_results.specs.declared.naming.TheConstants.{MOST_TALLIES};
 ghost use Rattle.scm_results.specs.Tallies.{nothing, nothing_counted};
 ghost use Rattle.scm_book.specs.Machine.{call_data, reply_data};
-ghost use Rattle.scm_book.specs.Journal.{makes_entry, IsCall, IsUnchanged};
-ghost use Rattle.scm_book.specs.inner.Loans.{IsLending, IsLendingForWork};
+ghost use Rattle.scm_book.specs.Journal.{IsCall};
 ghost use Rattle.scm_book.specs.inner.Plans.{IsKnown, known_reply};
 ghost use Rattle.scm_book.specs.inner.Workers.{IsTaking, IsDelivery};
-ghost use Rattle.scm_shared.specs.inner.Locking.{with_one_entered, KeepsCounts, IsSearchedCall};
+ghost use Rattle.scm_shared.specs.inner.Locking.{with_one_entered, KeepsCounts};
 ghost use Rattle.scm_shared.specs.Passes.{newcomer, IsPassCall};
 ghost use Rattle.scm_shared.specs.inner.Seats.{IsKeeper};
 
 use crate::length_word::LengthWord;
-use crate::loans::{BookLoan, CameBack};
 use crate::word::View;
 use crate::{BookNaming, Made, Pass};
 use atomic_table::Seat;
-use scm_book::{Book, Call, Entry, Outlook, Plan, Reply};
+use scm_book::{Book, Call, Entry, Outlook, Reply};
 use scm_expand::{Outcome, Task};
 use scm_results::{Results, Tally, Token, Totals};
 use scm_sequences::{MOST_ENTRIES, MOST_SESSIONS, NoMemory, Refusal};
@@ -29,14 +26,14 @@ use std::sync::ledger;
 use std::sync::ledger::{Blank, Share};
 
 /// The book, with its seat, which knows the journal; how many passes entered; the totals of tasks and outcomes, which are those
-/// of the book; and how many sets came back that it had lent.
+/// of the book; and how many sets that it had lent were taken back.
 #[derive(Drop)]
 pub(crate) struct Locked<B: BookNaming> {
     pub(crate) book: Book,
     pub(crate) entered: u16,
     pub(crate) seat: Seat<Entry, View>,
     pub(crate) totals: Totals<B>,
-    pub(crate) returns: u64,
+    pub(crate) taken_back: u64,
     pub(crate) made: ledger::Book<Made<B>>,
     // What isn't issued yet: the shares of passes that are still to enter.
     pub(crate) unissued: Share<Made<B>>,
@@ -86,7 +83,7 @@ impl<B: BookNaming> Locked<B> {
             entered: 0,
             seat,
             totals: Totals::new(totals),
-            returns: 0,
+            taken_back: 0,
             made,
             unissued,
         }
@@ -125,7 +122,6 @@ impl<B: BookNaming> Locked<B> {
         ensures answered { IsPassCall pass.old (call_data call) (reply_data result) pass.new }
         ensures book { IsCall self.old.book pass.old.number (call_data call) (reply_data result) self.new.book }
         ensures counts { KeepsCounts self.old self.new }
-        ensures unchanged { makes_entry (reply_data result) ≡ false → IsUnchanged self.old.book self.new.book }
     {
         let reply = self.book.call_planned(pass.number, call, outlook);
         if reply.makes_entry() {
@@ -141,53 +137,6 @@ impl<B: BookNaming> Locked<B> {
             pass.front = MOST_ENTRIES as u64;
         }
         reply
-    }
-
-    /// Makes the call where it is ready. Else it comes back: with its loan where it asks a question that is to be searched
-    /// without the lock first; where it has to wait for a set, with how many came back so far.
-    pub(crate) fn call_if_ready(
-        &mut self,
-        length_word: &LengthWord<B>,
-        pass: &mut Pass<B>,
-        call: Call,
-    ) -> Result<Reply, (Call, Result<BookLoan<B>, u64>)>
-        ensures answered { IfOk result (λ reply. IsPassCall pass.old (call_data call) (reply_data reply) pass.new) }
-        ensures called { IfOk result (λ reply. IsCall self.old.book pass.old.number (call_data call) (reply_data reply) self.new.book) }
-        ensures asked { IfErr result (λ asked. call_data asked.0 ≡ call_data call) }
-        ensures lent { IfErr result (λ asked. MatchResult asked.1 (λ loan. IsLending self.old.book (call_data call) (Some loan.lent) self.new.book) (λ _. IsLending self.old.book (call_data call) None self.new.book)) }
-        ensures pass { IfErr result (λ _. pass.new ≡ pass.old) }
-        ensures counts { KeepsCounts self.old self.new }
-    {
-        match self.book.plan(&call) {
-            Plan::Ready(outlook) => Ok(self.call(length_word, pass, call, outlook)),
-            Plan::Waits => Err((call, Err(self.returns))),
-            Plan::Long(lent) => Err((call, Ok(BookLoan::new(lent)))),
-        }
-    }
-
-    /// Takes a question back that was lent, and makes its call. Of the set that came back those who wait for it are to be told.
-    pub(crate) fn call_searched(
-        &mut self,
-        length_word: &LengthWord<B>,
-        pass: &mut Pass<B>,
-        call: Call,
-        loan: BookLoan<B>,
-    ) -> (Reply, CameBack<B>)
-        ensures answered { IsPassCall pass.old (call_data call) (reply_data result.0) pass.new }
-        ensures book { IsSearchedCall self.old.book loan.lent pass.old.number (call_data call) (reply_data result.0) self.new.book }
-        ensures counts { KeepsCounts self.old self.new }
-    {
-        let back = loan.give_back(self);
-        (self.call(length_word, pass, call, Outlook::Unknown), back)
-    }
-
-    /// The set of a trace, lent for work.
-    pub(crate) fn lend_work(&mut self) -> Option<BookLoan<B>>
-        ensures book { IsLendingForWork self.old.book (option_map (λ loan. loan.lent) result) self.new.book }
-        ensures counts { KeepsCounts self.old self.new }
-    {
-        let lent = self.book.lend_work()?;
-        Some(BookLoan::new(lent))
     }
 
     /// Takes at most `n` tasks, and counts them.

@@ -28,8 +28,8 @@ loop-pass-preserved g c =
       omega (arith, amount, i4, sum_by_push (λ (p : Known). length p.made) c.loop-pass.yielded c.in-Some.pass),
       one_more (λ (p : Known). p.number < c.self.inside.entered) c.loop-pass.yielded c.in-Some.pass i.5 given,
       omega (arith, apart, seats),
-      subst (λ (n : ℕ). AreFlags (set c.loop-pass.given n true) (c.loop-pass.yielded ++ c.in-Some.pass ∷ [])) (sym place)
-          (flags-next c.loop-pass.given c.loop-pass.yielded c.in-Some.pass i.7 (omega (arith, given, c.self.invariant.2))),
+      subst (λ (n : ℕ). AreFlags (set c.loop-pass.handed_in n true) (c.loop-pass.yielded ++ c.in-Some.pass ∷ [])) (sym place)
+          (flags-next c.loop-pass.handed_in c.loop-pass.yielded c.in-Some.pass i.7 (omega (arith, given, c.self.invariant.2))),
     )
 
 pub returns-clause-fits : goal.returns-clause-fits
@@ -50,8 +50,8 @@ pub returns-clause-agreed : goal.returns-clause-agreed
 returns-clause-agreed g c =
     let end = YieldsList-end (YieldsList-from_vec {s = c.into_iter-pass-iterator.result} c.args.passes.items (search rules) (search rules))
     c.loop-pass.yielded c.loop-pass.pass-iterator c.loop-pass.yielded_by c.next.result c.next.new.self c.in-None.is c.next.ensures.steps in
-    let flags : AreFlags c.loop-pass.given c.args.passes.items = rw (← end.0, map-id) c.loop-pass.invariant.7 in
-    agrees c.loop-pass.given c.args.passes.items c.entries.result.now c.self.inside.book.journal c.are_covered-agreed.result
+    let flags : AreFlags c.loop-pass.handed_in c.args.passes.items = rw (← end.0, map-id) c.loop-pass.invariant.7 in
+    agrees c.loop-pass.handed_in c.args.passes.items c.entries.result.now c.self.inside.book.journal c.are_covered-agreed.result
     flags c.are_covered-agreed.ensures c.entries.ensures.entries (returns-clause-fits g c)
 
 pub returns-clause-given : goal.returns-clause-given

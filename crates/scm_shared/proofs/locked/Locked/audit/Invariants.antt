@@ -16,4 +16,4 @@ invariant-loop-pass g l =
     × (l.all.amount ≡ sum_by (λ pass. length pass.made) l.yielded)
     × All (λ pass. pass.number < l.entered) l.yielded
     × (l.all.parts ≤ MOST_SESSIONS + 1)
-    × AreFlags l.given l.yielded
+    × AreFlags l.handed_in l.yielded
