@@ -1,5 +1,6 @@
 //! Scripts with a thread for each session.
 
+use crate::large::{MANY, SEARCHED, held, large_trace};
 use scm_expand::FreeGate;
 use scm_sessions::{Ended, Findings, Port, RunFault, run_each};
 use scm_shared::BookToken;
@@ -30,4 +31,23 @@ pub(crate) fn run_in_groups<T: Threads + Wait + Sync>(
         workers,
     );
     Ok((ended, writer.into_inner()))
+}
+
+/// So often a worker may come too late.
+const MOST_TRIES: u32 = 20;
+
+/// While a question of one session is searched, a worker searches what the other one reported.
+#[test]
+fn workers_search_beside_groups(rt: HostRuntime) -> Result<(), Fail> {
+    let alloc = rt.alloc();
+    let mut script = large_trace(alloc, "a", "t", MANY)?;
+    script.push_str("a ask t\n")?;
+    script.push_str(large_trace(alloc, "b", "u", MANY)?.as_str())?;
+    for _ in 0..MOST_TRIES {
+        let (ended, _written) = run_in_groups(&rt, alloc, script.as_bytes(), 1)?;
+        if SEARCHED < held(&rt, &ended?.audit.book, b"u") {
+            return Ok(());
+        }
+    }
+    Err("no worker searched beside a group".into())
 }

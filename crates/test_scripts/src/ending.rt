@@ -1,8 +1,8 @@
 //! The end of a script while workers expand, whose outcomes come after it, or search a set, which comes back.
 
 use crate::beside::is_agreed;
-use scm_cells::Name;
-use scm_expand::FreeGate;
+use crate::large::{MANY, SEARCHED, held, large_trace, situations};
+use scm_expand::Gate;
 use scm_sessions::{Ended, Findings, Port, RunFault, run_with_workers};
 use scm_shared::BookToken;
 use std::alloc::Global;
@@ -10,6 +10,7 @@ use std::io::Read;
 use std::marker::Brand;
 use std::process::Abort;
 use std::sync::Wait;
+use std::sync::atomic::{AtomicBool, AtomicU64, Ordering};
 use std::test::Fail;
 use std::thread::Threads;
 use std::{io, thread};
@@ -97,37 +98,56 @@ fn outcomes_that_come_after_the_end_are_delivered(rt: HostRuntime) -> Result<(),
     Ok(())
 }
 
-const OPEN: &str = "a open t 3 1000000 x:w=0 y:w=0\n\
-    a claim t 0\n\
-    a claim t 1\n\
-    a claim t 2\n";
-
-/// A load of what nobody stores. Before it the order of the reports is a schedule, and no worker has to search.
-const NEVER_STORED: &str = "a do t 2 lw x 2\n";
-
-/// So often both stores are reported. So a worker searches longer than it takes to begin.
-const TIMES: usize = 500;
-
-/// All situations of them.
-const SITUATIONS: usize = (TIMES + 1) * (TIMES + 1);
-
 /// So many waits for a worker are tried, each twice as long as the last.
 const MOST_TRIES: u32 = 20;
 
-fn long_script(alloc: Global) -> Result<String, Fail> {
-    let mut script = String::new(alloc);
-    script.push_str(OPEN)?;
-    for _ in 0..TIMES {
-        script.push_str("a do t 0 sw x 1\na do t 1 sw y 1\n")?;
-    }
-    script.push_str(NEVER_STORED)?;
-    Ok(script)
+/// For so many turns of other threads a worker is waited for. One that came just before all was reported may not come again.
+const MOST_TURNS: u64 = 1_000_000;
+
+/// Counts the workers that come once all is reported: for the set, since the trace is large then.
+#[derive(Drop)]
+struct Arrivals {
+    is_reported: AtomicBool,
+    came: AtomicU64,
 }
 
-/// Gives a script, and after so many turns of other threads its last line, if any, and its end.
+impl Arrivals {
+    fn new() -> Arrivals {
+        Arrivals {
+            is_reported: AtomicBool::new(false),
+            came: AtomicU64::new(0),
+        }
+    }
+
+    fn has_come(&self) -> bool {
+        self.came.load(Ordering::SeqCst) != 0
+    }
+
+    /// Waits for one, now that all is reported.
+    fn wait(&self) {
+        self.is_reported.store(true, Ordering::SeqCst);
+        for _ in 0..MOST_TURNS {
+            if self.has_come() {
+                return;
+            }
+            thread::yield_now();
+        }
+    }
+}
+
+impl Gate for Arrivals {
+    fn before_expand(&self, _worker: usize) {
+        if self.is_reported.load(Ordering::SeqCst) {
+            self.came.fetch_add(1, Ordering::SeqCst);
+        }
+    }
+}
+
+/// Gives a script, and so many turns of other threads after a worker came for the set its last line, if any, and its end.
 #[derive(Drop)]
 struct LateReader<'a> {
     script: &'a [u8],
+    arrivals: &'a Arrivals,
     turns: u64,
     last: &'a [u8],
 }
@@ -138,6 +158,7 @@ impl Read for LateReader<'_> {
         if given != 0 {
             return Ok(given);
         }
+        self.arrivals.wait();
         for _ in 0..self.turns {
             thread::yield_now();
         }
@@ -146,66 +167,76 @@ impl Read for LateReader<'_> {
     }
 }
 
-/// How many situations of t are held once the script has ended beside a worker, and what was written.
+/// What is there once a script has ended beside a worker.
+#[derive(Drop)]
+struct Late {
+    /// How many situations of t are held.
+    held: usize,
+    written: Vec<u8>,
+    /// Whether the worker came for the set.
+    has_come: bool,
+}
+
+/// Runs a script, and its last line so many turns of other threads after a worker came for the set.
 fn run_late<T: Threads + Wait + Abort + Sync>(
     rt: &T,
     alloc: Global,
-    reader: LateReader,
-) -> Result<(usize, Vec<u8>), Fail> {
+    script: &str,
+    turns: u64,
+    last: &str,
+) -> Result<Late, Fail> {
     let token = BookToken::new(alloc)?;
-    let mut reader = Port::new(reader);
+    let arrivals = Arrivals::new();
+    let mut reader = Port::new(LateReader {
+        script: script.as_bytes(),
+        arrivals: &arrivals,
+        turns,
+        last: last.as_bytes(),
+    });
     let mut writer = Port::new(Vec::new(alloc));
-    let ended = run_with_workers::<Brand, _, _, FreeGate, T>(
+    let ended = run_with_workers::<Brand, _, _, Arrivals, T>(
         rt,
         alloc,
         token,
         &mut reader,
         &mut writer,
         &mut Findings::new(),
-        &FreeGate,
+        &arrivals,
         1,
     );
     let audit = ended?.audit;
     assert!(rt; is_agreed(&audit, 1));
-    let name = Name::read(b"t").expect(rt, "a name");
-    let held = audit.book.held(&name).expect(rt, "a trace");
-    Ok((held, writer.into_inner()))
+    Ok(Late {
+        held: held(rt, &audit.book, b"t"),
+        written: writer.into_inner(),
+        has_come: arrivals.has_come(),
+    })
 }
 
 /// A worker that has begun to search is told to end: what it found is there.
 #[test]
 fn a_set_that_is_lent_at_the_end_comes_back(rt: HostRuntime) -> Result<(), Fail> {
-    let text = long_script(rt.alloc())?;
+    let script = large_trace(rt.alloc(), "a", "t", MANY)?;
     for tries in 0..MOST_TRIES {
-        let (script, turns) = (text.as_bytes(), 1 << tries);
-        let last: &[u8] = b"";
-        let reader = LateReader {
-            script,
-            turns,
-            last,
-        };
-        let (held, _written) = run_late(&rt, rt.alloc(), reader)?;
-        if 1 < held && held < SITUATIONS {
+        let late = run_late(&rt, rt.alloc(), script.as_str(), 1 << tries, "")?;
+        if SEARCHED < late.held && late.held < situations(MANY) {
             return Ok(());
         }
     }
     Err("no set came back in the midst of a search".into())
 }
 
-/// The last line asks, mostly while a worker has the set: it waits, and is answered.
+/// The last line asks, while a worker has the set as far as turns of threads can tell: it waits, and is answered.
 #[test]
 fn a_question_that_waits_at_the_end_is_answered(rt: HostRuntime) -> Result<(), Fail> {
-    let text = long_script(rt.alloc())?;
-    for turns in [1, 1_000, 100_000] {
-        let script = text.as_bytes();
-        let last: &[u8] = b"a ask t\n";
-        let reader = LateReader {
-            script,
-            turns,
-            last,
-        };
-        let (held, written) = run_late(&rt, rt.alloc(), reader)?;
-        assert!(rt; held == SITUATIONS && written.as_slice().ends_with(b"a inconsistent\n"));
+    let script = large_trace(rt.alloc(), "a", "t", MANY)?;
+    let mut has_come = false;
+    for turns in [10, 100, 1_000, 10] {
+        let late = run_late(&rt, rt.alloc(), script.as_str(), turns, "a ask t\n")?;
+        let is_answered = late.written.as_slice().ends_with(b"a inconsistent\n");
+        assert!(rt; is_answered && late.held == situations(MANY));
+        has_come |= late.has_come;
     }
+    assert!(rt; has_come);
     Ok(())
 }

@@ -13,6 +13,8 @@ mod fakes;
 #[cfg(test)]
 mod journals;
 #[cfg(test)]
+mod large;
+#[cfg(test)]
 mod ports;
 #[cfg(test)]
 mod ran;

@@ -2,6 +2,7 @@
 ghost use Rattle.std.specs.Prelude.{◌≡◌};
 
 use crate::each;
+use crate::large::{held, large_trace, situations};
 use crate::replays::replays;
 use crate::session::{Session, are_entries_of};
 use crate::storm_lines::{CALLERS, Caller, TURNS};
@@ -34,6 +35,9 @@ const CALM: &str = "p0 open u 2 100 x:w=0\n\
     p0 claim u 1\n\
     p0 do u 0 sw x 1\n\
     p0 do u 1 sw x 2\n";
+
+/// So often both stores of a trace are reported that nobody asks about: too often for tasks, so its set is lent in a pause.
+const TIMES: usize = 20;
 
 /// How often a held worker looks whether it may go on.
 const MOST_LOOKS: u64 = 1_000;
@@ -103,6 +107,7 @@ fn call_all<B: BookNaming, R: Wait + Abort>(
 }
 
 /// Makes the calls of the calm, and waits until a worker has come to expand a task: so the crew is awake when the storm begins.
+/// Then it reports the large trace.
 fn wake_crew<B: BookNaming, R: Wait + Abort>(
     rt: &R,
     alloc: Global,
@@ -110,10 +115,11 @@ fn wake_crew<B: BookNaming, R: Wait + Abort>(
     gusts: &Gusts,
     sessions: &mut [Session<B>],
 ) {
-    if let Some(first) = sessions.first_mut() {
-        call_all(rt, alloc, shared, gusts, first, CALM);
-    }
+    let first = sessions.first_mut().expect(rt, "a session");
+    call_all(rt, alloc, shared, gusts, first, CALM);
     assert!(rt; rises_to(&gusts.came, 1));
+    let large = large_trace(alloc, "p0", "v", TIMES).expect(rt, "memory");
+    call_all(rt, alloc, shared, gusts, first, large.as_str());
 }
 
 /// Makes all turns of one caller, and gives its session back.
@@ -231,11 +237,12 @@ fn has_time(rt: &impl Clock, began: &Instant) -> io::Result<bool> {
 fn storm_passes(rt: HostRuntime) -> Result<(), Fail> {
     let alloc = rt.alloc();
     let began = Instant::now(&rt)?;
-    let (mut delivered, mut came) = (0u64, 0u64);
+    let (mut delivered, mut came, mut is_lent) = (0u64, 0u64, false);
     for _ in 0..STORMS {
         let ended = storm::<Brand, _>(&rt, alloc, BookToken::new(alloc)?)?;
         delivered = delivered.saturating_add(ended.audit.book.results().delivered());
         came = came.saturating_add(ended.came);
+        is_lent |= held(&rt, &ended.audit.book, b"v") == situations(TIMES);
         let checked = check_audit(&rt, alloc, &ended.audit, ended.answered as usize);
         let journal = ended.audit.book.entries();
         for (session, calls) in ended.calls.iter().enumerate() {
@@ -248,7 +255,7 @@ fn storm_passes(rt: HostRuntime) -> Result<(), Fail> {
         }
     }
     // Each outcome came of one time at the gate, and each set of one more.
-    assert!(rt; 0 < delivered && delivered < came);
+    assert!(rt; 0 < delivered && delivered < came && is_lent);
     Ok(())
 }
 
