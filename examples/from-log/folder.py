@@ -80,7 +80,10 @@ def arguments():
     parser.add_argument("out", metavar="OUT", help="a folder for what is made; it is made where it isn't there")
     parser.add_argument("--worst", type=int, metavar="N", default=WORST, help=f"how many inconsistent ones are shrunk and drawn (default: {WORST})")
     add_program(parser)
-    return parser.parse_args()
+    options = parser.parse_args()
+    if options.worst < 0:
+        parser.error("--worst: no fewer than 0")
+    return options
 
 
 def rows_of(options, logs):
