@@ -1,90 +1,139 @@
 -- What an audit finds: whose passes were handed in.
-use Rattle.std.proofs.Common.{◌≡◌, ℕ, zero, suc, ◌<◌, List, [], ◌∷◌, ◌++◌, length, map, set, get_or, replicate, Bool, true, false, refl, arith, sym, ap, subst, ◌∙◌, ◌==◌, ◌||◌, ◌&&◌}
-use Rattle.std.specs.Prelude.{All, IsTrue, ◌↔◌}
-use Rattle.std.specs.List.{list_all, list_any}
-use Rattle.std.proofs.lemmas.Bool.{eqb-true, eq-eqb}
-use Rattle.std.proofs.lemmas.List.{length-replicate, length-set, get_or-set_same, get_or-set_other}
-use Rattle.std.proofs.lemmas.List.Folds.{list_any-append}
-use Rattle.std.proofs.lemmas.List.Elements.{All-append}
-use Rattle.scm_sequences.specs.declared.limits.TheConstants.{MOST_SESSIONS}
-use Rattle.scm_book.specs.declared.entry.Entry.{Entry}
-use Rattle.scm_book.specs.Machine.{EntryData, entry_data}
+use Rattle.std.proofs.Common.{◌≡◌, ℕ, zero, suc, ◌+◌, ◌<◌, ◌≤◌, List, [], ◌∷◌, length, Bool, true, false, cond, true≢false, refl, arith, sym, ap, ◌∙◌, ◌==◌, ◌||◌, ◌&&◌}
+use Rattle.std.specs.Prelude.{All, IsTrue, ◌↔◌, count_by}
+use Rattle.std.specs.List.{list_all, list_any, sum_by}
+use Rattle.std.proofs.lemmas.Bool.{eqb-true, eq-eqb, ne_eqb}
+use Rattle.std.proofs.lemmas.List.Sums.{sum_by-cons, count_by-le-length}
+use mathlib.Core.Logic.{dite}
+use native.Mathlib.Decide.{ℕ_discrete}
+use Rattle.scm_book.specs.Machine.{EntryData}
+use Rattle.scm_book.specs.inner.Callers.{calls_by}
 use Rattle.scm_shared.specs.Passes.{Known}
-use Rattle.scm_shared.specs.inner.Rule.{FitsHistory}
+use Rattle.scm_shared.specs.inner.Rule.{FitsHistory, AllFitHistory, AllGiven, AreDifferent}
 use Rattle.scm_shared.specs.inner.Audits.{covers, AllMatchEntries, Agree}
+use Rattle.scm_shared.proofs.Sums.{times, mark, mark-same, mark-other, times-cons}
 
 -- passes that fit the journal made just the calls of their sessions
 pub all_follow : (journal : List EntryData) (passes : List Known) → All (λ pass. FitsHistory journal pass) passes → AllMatchEntries passes journal
 all_follow journal passes fit = λ k other within. sym (fit k other within).all
 
--- it holds of one more pass
-pub one_more : (P : Known → Type 0) (passes : List Known) (pass : Known) → All P passes → P pass → All P (passes ++ pass ∷ [])
-one_more P passes pass all mine = All-append P passes (pass ∷ []) all one
-  where
-    one : (k : ℕ) (d : Known) → k < 1 → P (get_or (pass ∷ []) k d)
-    one zero d within = mine
-    one (suc k) d within = absurd (omega arith)
+-- all of them fit, and all their numbers were given
+pub all_fit : (log : List EntryData) (passes : List Known) → AllFitHistory log passes → All (λ pass. FitsHistory log pass) passes
+all_fit log [] fit k other within = absurd (omega (arith, within))
+all_fit log (pass ∷ others) fit zero other within = fit.0
+all_fit log (pass ∷ others) fit (suc k) other within = all_fit log others fit.1 k other (omega (arith, within))
+
+pub all_given : (entered : ℕ) (passes : List Known) → AllGiven entered passes → All (λ pass. pass.number < entered) passes
+all_given entered [] given k other within = absurd (omega (arith, within))
+all_given entered (pass ∷ others) given zero other within = given.0
+all_given entered (pass ∷ others) given (suc k) other within = all_given entered others given.1 k other (omega (arith, within))
+
+-- ---- as many calls as entries
 
 abbrev has_number : List Known → ℕ → Bool
 has_number passes number = list_any (λ (pass : Known). pass.number == number) passes
 
--- each flag tells whether one of these passes has its number
-pub record AreFlags (given : List Bool) (passes : List Known) : Type 0 where
-  pub room : length given ≡ MOST_SESSIONS
-  pub flags : (number : ℕ) → get_or given number false ≡ has_number passes number
+abbrev bit : Bool → ℕ
+bit b = cond b 1 0
 
-or_true : (b : Bool) → (b || true) ≡ true
-or_true true = refl
-or_true false = refl
+-- how many entries are of the pass's session
+abbrev entries_of : List EntryData → Known → ℕ
+entries_of log pass = length (calls_by pass.number log)
 
-or_false : (b : Bool) → (b || false) ≡ b
-or_false true = refl
-or_false false = refl
+one_entry : (entry : EntryData) (log : List EntryData) (pass : Known) (same : Bool) → (entry.session == pass.number) ≡ same
+    → entries_of (entry ∷ log) pass ≡ cond same 1 0 + entries_of log pass
+one_entry entry log pass true is = rw is (omega arith)
+one_entry entry log pass false is = rw is (omega arith)
 
--- no flag is set
-unset : (n number : ℕ) → get_or (replicate n false) number false ≡ false
-unset zero number = refl
-unset (suc n) zero = refl
-unset (suc n) (suc number) = unset n number
+-- an entry is of each pass that has its session's number
+entry_of : (entry : EntryData) (log : List EntryData) (pass : Known) → entries_of (entry ∷ log) pass ≡ mark pass.number entry.session + entries_of log pass
+entry_of entry log pass =
+    dite (ℕ_discrete pass.number entry.session)
+    (λ same. omega (arith, one_entry entry log pass true (eq-eqb entry.session pass.number (sym same)), mark-same pass.number entry.session same))
+    (λ apart. omega (arith, one_entry entry log pass false (ne_eqb entry.session pass.number (λ e. apart (sym e))), mark-other pass.number entry.session apart))
 
-pub flags-start : AreFlags (replicate MOST_SESSIONS false) []
-flags-start = record { room = length-replicate MOST_SESSIONS false; flags = unset MOST_SESSIONS }
+one_more : (entry : EntryData) (log : List EntryData) (passes : List Known)
+    → sum_by (entries_of (entry ∷ log)) passes ≡ times entry.session passes + sum_by (entries_of log) passes
+one_more entry log [] = refl
+one_more entry log (pass ∷ others) =
+    omega (
+      arith,
+      sum_by-cons (entries_of (entry ∷ log)) pass others,
+      sum_by-cons (entries_of log) pass others,
+      entry_of entry log pass,
+      times-cons entry.session pass others,
+      one_more entry log others,
+    )
 
--- one more flag is set
-module _ (given : List Bool) (passes : List Known) (pass : Known) (are : AreFlags given passes) (within : pass.number < MOST_SESSIONS) where
-  abbrev after : List Bool
-  after = set given pass.number true
+-- a number is on one of these passes, or on none
+abbrev IsOnce : ℕ → List Known → Type 0
+IsOnce number passes = times number passes ≤ 1 → times number passes ≡ cond (has_number passes number) 1 0
 
-  flag : (number : ℕ) (mine : Bool) → (pass.number == number) ≡ mine → get_or after number false ≡ (has_number passes number || (mine || false))
-  flag number true is =
-      let same : pass.number ≡ number = eqb-true pass.number number is in
-      let set_here : get_or after pass.number false ≡ true = get_or-set_same given pass.number true false (omega (arith, are.room, within)) in
-      subst (λ (n : ℕ). get_or after n false ≡ true) same set_here ∙ sym (or_true (has_number passes number))
-  flag number false is =
-      get_or-set_other given pass.number number true false (λ e. absurd (let own : (pass.number == number) ≡ true = eq-eqb pass.number number (sym e) in cc))
-      ∙ are.flags number ∙ sym (or_false (has_number passes number))
+once-cons : (number : ℕ) (pass : Known) (others : List Known) (same : Bool) → (pass.number == number) ≡ same → IsOnce number others → times number (pass ∷ others) ≤ 1
+    → times number (pass ∷ others) ≡ cond (same || has_number others number) 1 0
+once-cons number pass others true is rest few = omega (arith, few, times-cons number pass others, ap bit is)
+once-cons number pass others false is rest few =
+    let cons : times number (pass ∷ others) ≡ times number others = omega (arith, times-cons number pass others, ap bit is) in
+    cons ∙ rest (omega (arith, cons, few))
 
-  pub flags-next : AreFlags after (passes ++ pass ∷ [])
-  flags-next = record {
-    room = length-set given pass.number true ∙ are.room;
-    flags = λ number. flag number (pass.number == number) refl ∙ sym (list_any-append (λ (p : Known). p.number == number) passes (pass ∷ []));
-  }
+once : (number : ℕ) (passes : List Known) → IsOnce number passes
+once number [] few = refl
+once number (pass ∷ others) few = once-cons number pass others (pass.number == number) refl (once number others) few
 
--- each entry's flag tells whether its session has its pass
-covered : (given : List Bool) (passes : List Known) → AreFlags given passes → (entries : List Entry)
-    → list_all (λ (entry : Entry). get_or given entry.session false) entries ≡ covers passes (map entry_data entries)
-covered given passes are [] = refl
-covered given passes are (entry ∷ others) =
-    ap (λ (b : Bool). b && list_all (λ (e : Entry). get_or given e.session false) others) (are.flags entry.session)
-    ∙ ap (λ (b : Bool). has_number passes entry.session && b) (covered given passes are others)
+none_made : (passes : List Known) → sum_by (entries_of []) passes ≡ 0
+none_made [] = refl
+none_made (pass ∷ others) = omega (arith, sum_by-cons (entries_of []) pass others, none_made others)
+
+-- together the passes made as many calls as there are entries of their sessions
+counted : (log : List EntryData) (passes : List Known) → AreDifferent passes
+    → sum_by (entries_of log) passes ≡ count_by (λ entry. has_number passes entry.session) log
+counted [] passes different = none_made passes
+counted (entry ∷ log) passes different =
+    omega (
+      arith,
+      one_more entry log passes,
+      once entry.session passes (different entry.session),
+      counted log passes different,
+      sum_by-cons (λ (e : EntryData). cond (has_number passes e.session) 1 0) entry log,
+    )
+
+same_sum : (log : List EntryData) (passes : List Known) → AllFitHistory log passes → sum_by (λ (pass : Known). length pass.made) passes ≡ sum_by (entries_of log) passes
+same_sum log [] fit = refl
+same_sum log (pass ∷ others) fit =
+    omega (arith, sum_by-cons (λ (p : Known). length p.made) pass others, sum_by-cons (entries_of log) pass others, ap length fit.0.all, same_sum log others fit.1)
+
+-- a test counts all just where it holds of all
+module _ (test : EntryData → Bool) where
+  one_test : (entry : EntryData) (log : List EntryData) (passed : Bool) → test entry ≡ passed → count_by test (entry ∷ log) ≡ cond passed 1 0 + count_by test log
+  one_test entry log passed is = omega (arith, sum_by-cons (λ (e : EntryData). cond (test e) 1 0) entry log, ap bit is)
+
+  all_counted-cons : (entry : EntryData) (log : List EntryData) (passed : Bool) → test entry ≡ passed → (list_all test log ≡ true → count_by test log ≡ length log)
+      → (passed && list_all test log) ≡ true → count_by test (entry ∷ log) ≡ length log + 1
+  all_counted-cons entry log true is rest all = omega (arith, one_test entry log true is, rest all)
+  all_counted-cons entry log false is rest all = absurd (true≢false (sym all))
+
+  all_counted : (log : List EntryData) → list_all test log ≡ true → count_by test log ≡ length log
+  all_counted [] all = refl
+  all_counted (entry ∷ log) all = omega (arith, all_counted-cons entry log (test entry) refl (all_counted log) all)
+
+  all_hold-cons : (entry : EntryData) (log : List EntryData) (passed : Bool) → test entry ≡ passed → (count_by test log ≡ length log → list_all test log ≡ true)
+      → count_by test (entry ∷ log) ≡ length log + 1 → (passed && list_all test log) ≡ true
+  all_hold-cons entry log true is rest all = rest (omega (arith, one_test entry log true is, all))
+  all_hold-cons entry log false is rest all = absurd (omega (arith, one_test entry log false is, all, count_by-le-length test log))
+
+  all_hold : (log : List EntryData) → count_by test log ≡ length log → list_all test log ≡ true
+  all_hold [] all = refl
+  all_hold (entry ∷ log) all = all_hold-cons entry log (test entry) refl (all_hold log) (omega (arith, all))
 
 -- an audit's yes
-pub agrees : (given : List Bool) (passes : List Known) (entries : List Entry) (journal : List EntryData) (agreed : Bool) → AreFlags given passes
-    → agreed ≡ list_all (λ (entry : Entry). get_or given entry.session false) entries → map entry_data entries ≡ journal
-    → All (λ pass. FitsHistory journal pass) passes → IsTrue agreed ↔ Agree passes journal
-agrees given passes entries journal agreed are found is fit =
-    let all : agreed ≡ covers passes journal = found ∙ covered given passes are entries ∙ ap (λ (l : List EntryData). covers passes l) is in
-    ((λ yes. (sym all ∙ yes, all_follow journal passes fit)), (λ agree. all ∙ agree.0))
+pub agrees : (passes : List Known) (journal : List EntryData) (calls entries : ℕ) → AllFitHistory journal passes → AreDifferent passes
+    → calls ≡ sum_by (λ (pass : Known). length pass.made) passes → entries ≡ length journal
+    → IsTrue (calls == entries) ↔ Agree passes journal
+agrees passes journal calls entries fit different made is =
+    let sum : calls ≡ count_by (λ (entry : EntryData). has_number passes entry.session) journal = made ∙ same_sum journal passes fit ∙ counted journal passes different in (
+      (λ yes. (all_hold _ journal (sym sum ∙ eqb-true calls entries yes ∙ is), all_follow journal passes (all_fit journal passes fit))),
+      (λ agree. eq-eqb calls entries (sum ∙ all_counted _ journal agree.0 ∙ sym is)),
+    )
 
 pub is_given : (passes : List Known) (journal : List EntryData) (agreed : Bool) → IsTrue agreed ↔ Agree passes journal → All (λ pass. FitsHistory journal pass) passes
     → covers passes journal ≡ true → IsTrue agreed

@@ -187,7 +187,7 @@ learns slots id view is s kept size at small =
         subst (λ (ws : List ℕ). KeptAs ws (set s.views id new) id view.log view.entered) (sym word.1)
             (changed s.words s.views id view.log view.entered id view new k at record { book = λ _. (refl, refl, refl); passes = AllFitHistory-caught_up view.log view.passes fit } (λ n. times-caught_up n view.log view.passes)),
       ),
-      (refl, fit, all_given s.words s.views id view.log view.entered id view k at),
+      (refl, fit, all_given s.words s.views id view.log view.entered id view k at, λ n. let few = k.once n in let mine = at_most_sum_by (holds n) s.views id view at in omega (arith, few, mine)),
     )
 
 pub fronts : (slots id : ℕ) (view : SeatView)

@@ -1,12 +1,11 @@
 //! The end of a shared book: whose passes came back, and what workers counted.
-ghost use Rattle.std.specs.Prelude.{◌≡◌, ◌+◌, ◌<◌, ◌≤◌, ◌↔◌, true, false, All, IsTrue, get_or, length, sum_by, vec_len};
-ghost use Rattle.std.specs.List.{list_all};
+ghost use Rattle.std.specs.Prelude.{◌≡◌, ◌+◌, ◌<◌, ◌≤◌, ◌↔◌, [], ◌∷◌, true, All, IsTrue, length, sum_by, vec_len};
 ghost use Rattle.scm_sequences.specs.declared.limits.TheConstants.{MOST_SESSIONS};
 ghost use Rattle.scm_results.specs.declared.naming.TheConstants.{MOST_TALLIES};
 ghost use Rattle.scm_results.specs.Tallies.{AddUpTo};
 ghost use Rattle.scm_book.specs.Journal.{IsLegalBook};
-ghost use Rattle.scm_shared.specs.inner.Rule.{FitsHistory};
-ghost use Rattle.scm_shared.specs.inner.Seats.{IsBooks};
+ghost use Rattle.scm_shared.specs.inner.Rule.{holder, FitsHistory};
+ghost use Rattle.scm_shared.specs.inner.Steps.{both};
 ghost use Rattle.scm_shared.specs.inner.Audits.{covers, Agree};
 
 use crate::length_word::LengthWord;
@@ -16,7 +15,6 @@ use crate::{BookNaming, Made, Pass};
 use atomic_table::Seat;
 use scm_book::{Book, Entry};
 use scm_results::Tally;
-use scm_sequences::MOST_SESSIONS;
 use std::sync::ledger::Share;
 
 /// What an audit finds.
@@ -34,50 +32,33 @@ pub struct Audit {
     pub totals_agreed: bool,
 }
 
-/// Whether each session with an entry has its pass among those handed in, each flag being that of a number.
-fn are_covered(handed_in: &[bool; MOST_SESSIONS], entries: &[Entry]) -> bool
-    ensures { result ≡ list_all (λ entry. get_or handed_in.now entry.session false) entries.now }
-{
-    entries
-        .iter()
-        .all(|entry| is_handed_in(handed_in, entry.session))
-}
-
-fn is_handed_in(handed_in: &[bool; MOST_SESSIONS], number: u16) -> bool
-    ensures { result ≡ get_or handed_in.now number false }
-{
-    handed_in.get(usize::from(number)).copied().unwrap_or(false)
-}
-
-/// Takes a pass apart, which fits the journal. Gives its number.
+/// Takes a pass apart, which joins the book's seat. Gives how many calls it made.
 fn take_in<B: BookNaming>(
     length_word: &LengthWord<B>,
     seat: &mut Seat<Entry, View>,
     all: &mut Share<Made<B>>,
     pass: Pass<B>,
-) -> u16
-    requires { (seat.old.table_id ≡ B.table) × IsBooks seat.old.me }
-    ensures seat { (seat.new.table_id ≡ B.table) × (seat.new.me ≡ seat.old.me) }
-    ensures number { result ≡ pass.number }
-    ensures fits { FitsHistory seat.old.me.0.log pass }
-    ensures given { pass.number < seat.old.me.0.entered }
+) -> u64
+    requires { seat.old.table_id ≡ B.table }
+    ensures seat { (seat.new.table_id ≡ B.table) × (seat.new.me ≡ (both seat.old.me.0 (holder (pass ∷ [])), seat.old.me.1)) }
+    ensures made { result ≡ length pass.made }
     ensures parts { (all.new.parts ≡ all.old.parts + 1) × (all.new.parts ≤ B.seats) }
     ensures amount { all.new.amount ≡ all.old.amount + length pass.made }
 {
     let Pass {
-        number,
+        made,
         mut badge,
         share,
         ..
     } = pass;
-    length_word.catch_up(seat, &mut badge);
+    length_word.join(seat, &mut badge);
     all.merge(share);
-    number
+    made
 }
 
 impl<B: BookNaming> Locked<B> {
     /// Takes apart what the lock holds, and compares the tallies with the totals. That the calls of every pass are its session's
-    /// entries is proved, by the rule of the length word: what is looked at is whose pass was handed in.
+    /// entries is proved, by the rule of the length word: what is looked at is whether they made as many as there are entries.
     pub(crate) fn audit(
         self,
         length_word: &LengthWord<B>,
@@ -107,18 +88,21 @@ impl<B: BookNaming> Locked<B> {
             unissued: mut all,
             ..
         } = self;
-        let mut handed_in = [false; MOST_SESSIONS];
+        let mut calls = 0;
         for pass in passes {
-            let number = take_in(length_word, &mut seat, &mut all, pass);
-            handed_in[usize::from(number)] = true;
+            let of_pass = take_in(length_word, &mut seat, &mut all, pass);
+            // By this, which does nothing at run time, no sum is more than there are entries.
+            made.audit(&mut all);
+            calls += of_pass;
         }
         made.audit(&mut all);
-        let agreed = are_covered(&handed_in, book.entries());
+        length_word.learn(&mut seat);
+        let entries = book.entries().len() as u64;
         Audit {
             book,
             entered,
             tallies: totals.given(),
-            agreed,
+            agreed: calls == entries,
             totals_agreed: totals.settle(tallies),
         }
     }

@@ -1,9 +1,9 @@
 //! The length word beside the lock, and all that is done with it.
-ghost use Rattle.std.specs.Prelude.{◌≡◌, ◌+◌, ◌<◌, ◌≤◌, ◌⊎◌, [], ◌∷◌, ◌++◌, length, map};
+ghost use Rattle.std.specs.Prelude.{◌≡◌, ◌+◌, ◌≤◌, ◌⊎◌, [], ◌∷◌, ◌++◌, true, length, map};
 ghost use mathlib.Core.List.{IsPrefix};
 ghost use Rattle.scm_book.specs.Machine.{EntryData, entry_data};
 ghost use Rattle.scm_shared.specs.Passes.{newcomer, at_front};
-ghost use Rattle.scm_shared.specs.inner.Rule.{holder, FitsHistory};
+ghost use Rattle.scm_shared.specs.inner.Rule.{holder, FitsHistory, AllFitHistory, AllGiven, AreDifferent};
 ghost use Rattle.scm_shared.specs.inner.Steps.{both, staying, parted, caught_up, called};
 ghost use Rattle.scm_shared.specs.inner.Seats.{known_in, IsPassOf, HasPass, IsKeeper, IsBooks};
 
@@ -96,11 +96,21 @@ impl<B: BookNaming> LengthWord<B> {
         ensures seat { (seat.new.table_id ≡ B.table) × (seat.new.me ≡ seat.old.me) }
         ensures badge { (badge.new.table_id ≡ B.table) × IsPassOf badge.new.views (caught_up seat.old.me.0.log (known_in badge.old.views)) }
         ensures fits { FitsHistory seat.old.me.0.log (known_in badge.old.views) }
-        ensures given { (known_in badge.old.views).number < seat.old.me.0.entered }
     {
         self.join(seat, badge);
         self.table.shared.load::<Learns>(seat, 0);
         *badge = self.part(seat);
+    }
+
+    /// Tells of the passes that joined the book's seat.
+    pub(crate) fn learn(&self, seat: &mut Seat<Entry, View>)
+        requires table { seat.old.table_id ≡ B.table }
+        requires book { (seat.old.me.0.keeps ≡ true) × (seat.old.me.1 ≡ []) }
+        ensures fit { AllFitHistory seat.old.me.0.log seat.old.me.0.passes }
+        ensures given { AllGiven seat.old.me.0.entered seat.old.me.0.passes }
+        ensures different { AreDifferent seat.old.me.0.passes }
+    {
+        self.table.shared.load::<Learns>(seat, 0);
     }
 
     /// A length of the journal for the pass.
@@ -133,7 +143,7 @@ impl<B: BookNaming> LengthWord<B> {
     }
 
     /// The pass's seat is joined to this one. The badge is blank then.
-    fn join(&self, seat: &mut Seat<Entry, View>, badge: &mut Badge<View>)
+    pub(crate) fn join(&self, seat: &mut Seat<Entry, View>, badge: &mut Badge<View>)
         requires seat { seat.old.table_id ≡ B.table }
         requires badge { (badge.old.table_id ≡ B.table) × HasPass badge.old.views }
         ensures { (seat.new.table_id ≡ B.table) × (seat.new.me ≡ (both seat.old.me.0 (holder (known_in badge.old.views ∷ [])), seat.old.me.1)) }

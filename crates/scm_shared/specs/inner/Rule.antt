@@ -48,6 +48,10 @@ abbrev pub AllGiven : ℕ → List Known → Type 0
 AllGiven entered [] = ⊤
 AllGiven entered (pass ∷ others) = (pass.number < entered) × AllGiven entered others
 
+-- no number is on two of these
+abbrev pub AreDifferent : List Known → Type 0
+AreDifferent passes = (number : ℕ) → count_by (λ pass. pass.number == number) passes ≤ 1
+
 -- only this seat is the book's, and it knows the whole history; every pass fits it
 pub record FitsView (seat : ℕ) (log : List EntryData) (entered : ℕ) (place : ℕ) (view : SeatView) : Type 0 where
   pub book : view.keeps ≡ true → (place ≡ seat) × (view.log ≡ log) × (view.entered ≡ entered)

@@ -5,7 +5,7 @@ use Rattle.atomic_table.specs.Table.{Me, Step}
 use Rattle.scm_book.specs.declared.entry.Entry.{Entry}
 use Rattle.scm_book.specs.Machine.{EntryData, entry_data}
 use Rattle.scm_shared.specs.Passes.{Known, known, newcomer, at_front}
-use Rattle.scm_shared.specs.inner.Rule.{SeatView, keeper, holder, AllFitHistory, AllGiven}
+use Rattle.scm_shared.specs.inner.Rule.{SeatView, keeper, holder, AllFitHistory, AllGiven, AreDifferent}
 
 -- ---- enter: a new pass's seat is split off the book's
 
@@ -73,6 +73,7 @@ TellsHistory step before found after =
     (after ≡ (keeper before.0.log before.0.entered (all_caught_up before.0.log before.0.passes), []))
     × AllFitHistory before.0.log before.0.passes
     × AllGiven before.0.entered before.0.passes
+    × AreDifferent before.0.passes
 
 -- ---- front, meet: a seat of passes looks at the word, without the lock
 

@@ -5,7 +5,6 @@ use Rattle.scm_book.specs.Journal.{entered}
 use Rattle.scm_shared.specs.Passes.{Known}
 use Rattle.scm_shared.specs.inner.Rule.{FitsHistory, SeatView}
 use Rattle.scm_shared.specs.inner.Seats.{known_in}
-use Rattle.scm_shared.specs.inner.Steps.{called}
 use Rattle.scm_shared.proofs.Passing.{extended, told_last}
 use Rattle.scm_shared.proofs.locked.Locked.call.Goals as goal
 
