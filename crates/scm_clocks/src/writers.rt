@@ -38,7 +38,7 @@ impl Writers {
     }
 
     /// How many of them have a number below `x`.
-    pub fn count(&self, value: u32, x: u32) -> Option<usize> {
-        Some(count_below(self.of(value)?, x))
+    pub fn count(&self, value: u32, x: u32) -> Option<u32> {
+        u32::try_from(count_below(self.of(value)?, x)).ok()
     }
 }

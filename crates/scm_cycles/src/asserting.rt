@@ -38,7 +38,6 @@ impl Search {
     pub(crate) fn settle(&mut self, claim: Claim, id: u32) -> Option<()> {
         self.read_facts.settle(claim.to, id)?;
         self.choices.see(claim)?;
-        self.note_left(claim.to, 1)?;
         let steps = self.candidates.close(claim.to)?;
         self.burn_for(steps)?;
         self.waiting.settled(claim.to)

@@ -1,10 +1,9 @@
 //! What is left for reads to see.
+use crate::open_reads::OpenReads;
+use crate::touching::Side;
 use crate::users::Users;
-use scm_clocks::{Given, Grid};
+use scm_clocks::Given;
 use std::alloc::Global;
-
-/// For how many operations and processes, multiplied, there are bounds at most: larger traces aren't looked at.
-const MOST_BOUNDS: u32 = 1 << 24;
 
 /// Where the writes of one process that are left stand in the list of the value: those from `low` on, below `high`; and the
 /// first and the last of them.
@@ -20,6 +19,12 @@ impl Bounds {
         low: 0,
         high: 0,
         ends: None,
+    };
+
+    // Of first contents.
+    const FIRST: Bounds = Bounds {
+        high: 1,
+        ..Bounds::NOTHING
     };
 
     /// Of these places in the list of the value.
@@ -51,61 +56,57 @@ struct BoundsChange {
 }
 
 /// For each operation and each process the bounds of what is left for it to see, but for what single steps rule out between
-/// others that are left. Of a read whose source is known nothing is left.
+/// others that are left; and after those of the processes, whether first contents are. Of a read whose source is known nothing is
+/// left.
 #[derive(Drop)]
 pub(crate) struct Candidates {
     procs: u32,
     bounds: Vec<Bounds>,
     changes: Vec<BoundsChange>,
+    is_recorded: bool,
+    open_reads: OpenReads,
     firsts: Users,
     lasts: Users,
 }
 
 impl Candidates {
-    /// All writes of what each read finds, but for later ones of its process.
+    /// All writes of what each read finds, but for later ones of its process, and first contents.
     pub(crate) fn new(alloc: Global, given: &Given) -> Option<Candidates> {
         let (procs, ops) = (given.numbering.procs()?, given.numbering.len()?);
-        if ops.checked_mul(procs)? > MOST_BOUNDS {
-            return None;
-        }
+        let count = ops.checked_mul(procs.checked_add(1)?)?;
         let mut candidates = Candidates {
             procs,
-            bounds: Vec::new(alloc),
+            bounds: vec![in alloc; Bounds::NOTHING; count as usize].ok()?,
             changes: Vec::new(alloc),
+            is_recorded: false,
+            open_reads: OpenReads::none(alloc, ops)?,
             firsts: Users::new(alloc, ops)?,
             lasts: Users::new(alloc, ops)?,
         };
-        let starts = starts(alloc, given)?;
         for x in 0..ops {
-            match given.values.found(x) {
-                Some(value) => candidates.add(given, &starts, x, value)?,
-                None => candidates.add_nothing()?,
+            if let Some(value) = given.values.found(x) {
+                candidates.add(given, x, value)?;
             }
         }
         Some(candidates)
     }
 
-    fn add(&mut self, given: &Given, starts: &Grid, x: u32, value: u32) -> Option<()> {
-        let (owner, _) = given.numbering.spot(x)?;
-        let list = given.writers.of(value)?;
+    fn add(&mut self, given: &Given, read: u32, value: u32) -> Option<()> {
+        let (owner, _) = given.numbering.spot(read)?;
+        let (mut end, mut low) = (0u32, 0);
         for process in 0..self.procs {
-            let low = starts.get(process, value)?;
+            end = end.checked_add(given.numbering.count(process)?)?;
+            let count = given.writers.count(value, end)?;
             let high = if process == owner {
-                u32::try_from(given.writers.count(value, x)?).ok()?
+                given.writers.count(value, read)?
             } else {
-                starts.get(process.checked_add(1)?, value)?
+                count
             };
-            let bounds = Bounds::new(list, low, high)?;
-            self.bounds.push(bounds).ok()?;
-            self.use_ends(x, bounds)?;
+            let bounds = Bounds::new(given.writers.of(value)?, low, high)?;
+            self.set(read, process, bounds)?;
+            low = count;
         }
-        Some(())
-    }
-
-    fn add_nothing(&mut self) -> Option<()> {
-        for _ in 0..self.procs {
-            self.bounds.push(Bounds::NOTHING).ok()?;
-        }
+        self.set(read, self.procs, Bounds::FIRST)?;
         Some(())
     }
 
@@ -125,8 +126,18 @@ impl Candidates {
         steps.checked_add(self.lasts.remove(last, read)?)
     }
 
+    /// From now on changes can be taken back.
+    pub(crate) fn record(&mut self) {
+        self.is_recorded = true;
+    }
+
+    // How many bounds a read has.
+    fn width(&self) -> Option<u32> {
+        self.procs.checked_add(1)
+    }
+
     fn place(&self, read: u32, process: u32) -> Option<u32> {
-        read.checked_mul(self.procs)?.checked_add(process)
+        read.checked_mul(self.width()?)?.checked_add(process)
     }
 
     pub(crate) fn get(&self, read: u32, process: u32) -> Option<Bounds> {
@@ -134,13 +145,27 @@ impl Candidates {
         self.bounds.get(at as usize).copied()
     }
 
-    /// The reads that have a write as the first one that is left of its process, or else as the last one.
-    pub(crate) fn users(&self, write: u32, is_first: bool) -> Option<&[u32]> {
-        if is_first {
-            self.firsts.of(write)
-        } else {
-            self.lasts.of(write)
+    /// The reads that have a write as the first one that is left of its process, for what comes before it, or as the last one.
+    pub(crate) fn users(&self, write: u32, side: Side) -> Option<&[u32]> {
+        match side {
+            Side::Before => self.firsts.of(write),
+            Side::After => self.lasts.of(write),
         }
+    }
+
+    /// How much is left for a read.
+    pub(crate) fn left(&self, read: u32) -> Option<u32> {
+        self.open_reads.left(read)
+    }
+
+    /// The reads for which several are left.
+    pub(crate) fn open_reads(&self) -> &[u32] {
+        self.open_reads.as_slice()
+    }
+
+    /// Whether first contents are left for a read.
+    pub(crate) fn is_first_left(&self, read: u32) -> Option<bool> {
+        Some(self.get(read, self.procs)?.len() > 0)
     }
 
     /// The bounds of all processes.
@@ -150,11 +175,19 @@ impl Candidates {
             .get(start..start.checked_add(self.procs as usize)?)
     }
 
+    /// First contents aren't left for a read any more.
+    pub(crate) fn rule_out_first(&mut self, read: u32) -> Option<()> {
+        self.set(read, self.procs, Bounds::NOTHING)?;
+        Some(())
+    }
+
     /// Puts new bounds in the place of a read's old ones. How many reads were looked at for that.
     pub(crate) fn set(&mut self, read: u32, process: u32, bounds: Bounds) -> Option<usize> {
         let at = self.place(read, process)?;
-        let old = *self.bounds.get(at as usize)?;
-        self.changes.push(BoundsChange { at, bounds: old }).ok()?;
+        if self.is_recorded {
+            let bounds = self.get(read, process)?;
+            self.changes.push(BoundsChange { at, bounds }).ok()?;
+        }
         self.exchange(at, bounds)
     }
 
@@ -162,7 +195,10 @@ impl Candidates {
         let place = self.bounds.get_mut(at as usize)?;
         let old = *place;
         *place = bounds;
-        let read = at.checked_div(self.procs)?;
+        let read = at.checked_div(self.width()?)?;
+        let left = self.left(read)?.checked_sub(old.len())?;
+        self.open_reads
+            .set_left(read, left.checked_add(bounds.len())?)?;
         let steps = self.leave_ends(read, old)?;
         self.use_ends(read, bounds)?;
         Some(steps)
@@ -171,7 +207,7 @@ impl Candidates {
     /// The source of the read is known: nothing is left. How many reads were looked at for that.
     pub(crate) fn close(&mut self, read: u32) -> Option<usize> {
         let mut steps: usize = 0;
-        for process in 0..self.procs {
+        for process in 0..self.width()? {
             if self.get(read, process)?.len() > 0 {
                 let more = self.set(read, process, Bounds::NOTHING)?;
                 steps = steps.saturating_add(more);
@@ -195,25 +231,4 @@ impl Candidates {
         }
         Some(steps)
     }
-}
-
-// For each process and each value how many of its writes are of earlier processes; and last, how many there are.
-fn starts(alloc: Global, given: &Given) -> Option<Grid> {
-    let procs = given.numbering.procs()?;
-    let mut starts = Grid::zeros(alloc, procs.checked_add(1)?, given.values.count())?;
-    let mut first: u32 = 0;
-    for process in 0..procs {
-        first = first.checked_add(given.numbering.count(process)?)?;
-        count_writes(&mut starts, given, process.checked_add(1)?, first)?;
-    }
-    Some(starts)
-}
-
-// Fills a row with how many writes of each value have a number below `x`.
-fn count_writes(starts: &mut Grid, given: &Given, row: u32, x: u32) -> Option<()> {
-    for value in 0..given.values.count() {
-        let count = u32::try_from(given.writers.count(value, x)?).ok()?;
-        starts.set(row, value, count)?;
-    }
-    Some(())
 }

@@ -48,6 +48,7 @@ impl Search {
     pub(crate) fn try_cases(&mut self) -> Option<Option<Conflict>> {
         self.clocks.record();
         self.afters.record();
+        self.candidates.record();
         self.touch_all()?;
         for _ in 0..self.fuel {
             self.burn(1)?;

@@ -11,18 +11,11 @@ const MOST_INCREMENT: u64 = 1 << 40;
 /// By how much it is made smaller.
 const SCALE: u32 = 20;
 
-/// Of so much that is left, one is to be chosen.
-const SEVERAL: u32 = 2;
-
-/// For each operation how much contradictions went through it of late, what was seen last, and how much is left for it to see;
-/// and the reads for which several are left, in any order, with the place of each.
+/// For each operation how much contradictions went through it of late, and what was seen last.
 #[derive(Drop)]
 pub(crate) struct Choices {
     activities: Vec<u64>,
     last_seen: Vec<Option<Claim>>,
-    lefts: Vec<u32>,
-    open: Vec<u32>,
-    places: Vec<usize>,
     increment: u64,
 }
 
@@ -31,47 +24,8 @@ impl Choices {
         Some(Choices {
             activities: vec![in alloc; 0; ops as usize].ok()?,
             last_seen: vec![in alloc; None; ops as usize].ok()?,
-            lefts: vec![in alloc; 0; ops as usize].ok()?,
-            open: Vec::new(alloc),
-            places: vec![in alloc; 0; ops as usize].ok()?,
             increment: FIRST_INCREMENT,
         })
-    }
-
-    pub(crate) fn left(&self, read: u32) -> Option<u32> {
-        self.lefts.get(read as usize).copied()
-    }
-
-    pub(crate) fn set_left(&mut self, read: u32, left: u32) -> Option<()> {
-        let place = self.lefts.get_mut(read as usize)?;
-        let (was_open, is_open) = (*place >= SEVERAL, left >= SEVERAL);
-        *place = left;
-        match (was_open, is_open) {
-            (false, true) => self.open(read),
-            (true, false) => self.close(read),
-            _ => Some(()),
-        }
-    }
-
-    fn open(&mut self, read: u32) -> Option<()> {
-        *self.places.get_mut(read as usize)? = self.open.len();
-        self.open.push(read).ok()
-    }
-
-    // The last one takes its place.
-    fn close(&mut self, read: u32) -> Option<()> {
-        let at = *self.places.get(read as usize)?;
-        let last = self.open.pop()?;
-        if let Some(place) = self.open.get_mut(at) {
-            *place = last;
-            *self.places.get_mut(last as usize)? = at;
-        }
-        Some(())
-    }
-
-    /// The reads for which several are left.
-    pub(crate) fn open_reads(&self) -> &[u32] {
-        self.open.as_slice()
     }
 
     pub(crate) fn last_seen(&self, read: u32) -> Option<Option<Claim>> {

@@ -25,19 +25,9 @@ fn better(best: Option<WeightedClaim>, claim: Claim, weight: u64) -> Option<Weig
 }
 
 impl Search {
-    /// So much is left for a read to see.
-    pub(crate) fn note_left(&mut self, read: u32, left: u32) -> Option<()> {
-        let old = self.choices.left(read)?;
-        if left != old {
-            self.trail.note_left(read, old)?;
-            self.choices.set_left(read, left)?;
-        }
-        Some(())
-    }
-
     /// The case that is tried next, if there is one.
     pub(crate) fn choose(&mut self) -> Option<Option<Claim>> {
-        let open = u32::try_from(self.choices.open_reads().len()).ok()?;
+        let open = u32::try_from(self.candidates.open_reads().len()).ok()?;
         self.burn(open / READS_OF_STEP)?;
         if let Some(read) = self.open_read(self.restarts.count)? {
             return Some(Some(self.choose_source(read)?));
@@ -52,7 +42,7 @@ impl Search {
     // The read by activity over how much is left, the latter by another power after each restart.
     fn open_read(&self, restarts: u64) -> Option<Option<u32>> {
         let mut best: Option<(u32, u64)> = None;
-        for read in self.choices.open_reads() {
+        for read in self.candidates.open_reads() {
             let weight = self.weight(*read, restarts)?;
             if best.is_none_or(|(first, most)| weight > most || weight == most && *read < first) {
                 best = Some((*read, weight));
@@ -62,7 +52,7 @@ impl Search {
     }
 
     fn weight(&self, read: u32, restarts: u64) -> Option<u64> {
-        let left = self.choices.left(read)?;
+        let left = self.candidates.left(read)?;
         let part = u64::from(left).saturating_mul(2).saturating_sub(1).max(1);
         let over = match restarts % 3 {
             1 => part.saturating_mul(part),
@@ -91,15 +81,15 @@ impl Search {
             self.given.numbering.cell(read)?,
             self.given.values.found(read)?,
         );
-        let left = self.narrow(read, cell, value)?;
+        self.narrow(read, cell, value)?;
         let mut best = None;
-        if left.is_first_left {
+        if self.candidates.is_first_left(read)? {
             let far = self.progress(read)?;
             best = better(best, Claim::sees_first(read), u64::MAX.saturating_sub(far));
         }
         for bounds in self.candidates.row(read)? {
             let writers = self.given.writers.of(value)?;
-            let left = part(writers, bounds.low as usize, bounds.high as usize);
+            let left = part(writers, bounds.low, bounds.high);
             best = self.nearest(best, read, left)?;
         }
         best.map(|choice| choice.claim)

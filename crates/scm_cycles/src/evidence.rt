@@ -55,13 +55,7 @@ impl Search {
     }
 
     // The steps that rule out the writes between two places of the value's list.
-    fn add_unseen(
-        &self,
-        needs: &mut Vec<Need>,
-        view: &ReadView,
-        from: usize,
-        to: usize,
-    ) -> Option<()> {
+    fn add_unseen(&self, needs: &mut Vec<Need>, view: &ReadView, from: u32, to: u32) -> Option<()> {
         for write in part(self.given.writers.of(view.value)?, from, to) {
             let id = self.unseen(*write, view.read)??;
             needs.push(Need::Step(id)).ok()?;

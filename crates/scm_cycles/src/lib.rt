@@ -19,6 +19,7 @@ mod finding;
 mod gathering;
 mod lines;
 mod narrowing;
+mod open_reads;
 mod path_pieces;
 mod read_facts;
 mod read_views;

@@ -12,51 +12,44 @@ pub(crate) struct Hidden {
     is_written: bool,
 }
 
-/// Of what is left for a read: how many writes, and whether first contents are.
+/// How many operations of each process come before all that is left for a read, and from which place on they come after all of it.
 #[derive(Clone, Copy)]
-pub(crate) struct CandidatesLeft {
-    pub(crate) writes: u32,
-    pub(crate) is_first_left: bool,
-}
-
-impl CandidatesLeft {
-    /// How much is left.
-    pub(crate) fn len(self) -> u32 {
-        self.writes.saturating_add(u32::from(self.is_first_left))
-    }
+pub(crate) struct Around {
+    pub(crate) before: [u32; MOST_PROCESSES],
+    pub(crate) after: [u32; MOST_PROCESSES],
 }
 
 impl Search {
     /// Leaves out what is hidden from the read, what comes after it, and what steps rule out there, at both ends of each
-    /// process. What is left.
-    pub(crate) fn narrow(&mut self, read: u32, cell: u32, value: u32) -> Option<CandidatesLeft> {
+    /// process.
+    pub(crate) fn narrow(&mut self, read: u32, cell: u32, value: u32) -> Option<()> {
         let hidden = self.hidden(read, cell)?;
-        let mut writes: u32 = 0;
         for (process, count) in (0..self.procs).zip(hidden.counts) {
-            let left = self.narrow_process(read, value, process, count)?;
-            writes = writes.saturating_add(left);
+            self.narrow_process(read, value, process, count)?;
         }
-        let is_first_left = !hidden.is_written && self.may_see_first(read, cell, value)?;
-        Some(CandidatesLeft {
-            writes,
-            is_first_left,
-        })
+        if self.candidates.is_first_left(read)?
+            && (hidden.is_written || !self.may_see_first(read, cell, value)?)
+        {
+            self.candidates.rule_out_first(read)?;
+        }
+        Some(())
     }
 
-    // The same in one process, so many of whose operations are hidden. How many writes are left there.
-    fn narrow_process(&mut self, read: u32, value: u32, process: u32, hidden: u32) -> Option<u32> {
+    // The same in one process, so many of whose operations are hidden.
+    fn narrow_process(&mut self, read: u32, value: u32, process: u32, hidden: u32) -> Option<()> {
         let old = self.candidates.get(read, process)?;
         if old.len() == 0 {
-            return Some(0);
+            return Some(());
         }
         let new = self.narrowed(old, read, value, process, hidden)?;
         if new != old {
             let steps = self.candidates.set(read, process, new)?;
             self.burn_for(steps)?;
         }
-        Some(new.len())
+        Some(())
     }
 
+    /// How much is hidden from a read of a cell.
     pub(crate) fn hidden(&self, read: u32, cell: u32) -> Option<Hidden> {
         let mut hidden = Hidden {
             counts: [0; MOST_PROCESSES],
@@ -112,24 +105,21 @@ impl Search {
         Some(bounds.low)
     }
 
-    /// Whether what is left tells something that isn't known: by what all of it comes after, or before.
-    pub(crate) fn is_telling(&self, read: u32, cell: u32, left: CandidatesLeft) -> Option<bool> {
-        if left.writes == 0 || left.len() == 1 {
-            return Some(true);
-        }
-        let is_after = !left.is_first_left && self.is_after_more(read)?;
-        Some(is_after || self.is_before_more(read, cell)?)
-    }
-
-    // Whether all that is left comes after more than what the read is known to come after.
-    fn is_after_more(&self, read: u32) -> Option<bool> {
-        let mut least = [u32::MAX; MOST_PROCESSES];
+    /// What comes before and after all that is left for a read.
+    pub(crate) fn around(&self, read: u32) -> Option<Around> {
+        let is_first_left = self.candidates.is_first_left(read)?;
+        let most = if is_first_left { 0 } else { u32::MAX };
+        let mut around = Around {
+            before: [most; MOST_PROCESSES],
+            after: [0; MOST_PROCESSES],
+        };
         for (bounds, process) in self.candidates.row(read)?.iter().zip(0..self.procs) {
-            if let Some((first, _)) = bounds.ends {
-                self.lower_to(&mut least, first, process)?;
+            if let Some((first, last)) = bounds.ends {
+                self.lower_to(&mut around.before, first, process)?;
+                raise_to(&mut around.after, self.afters.row(last)?);
             }
         }
-        Some(!is_covered(&least, self.clocks.row(read)?))
+        Some(around)
     }
 
     // Each count is at most what comes up to an operation of this process.
@@ -142,28 +132,19 @@ impl Search {
         Some(())
     }
 
-    // Whether all that is left comes before a write of the cell that the read isn't known to come before.
-    fn is_before_more(&self, read: u32, cell: u32) -> Option<bool> {
-        let places = self.after_all_left(read)?;
+    /// Whether that tells something of the read that isn't known: that it comes after more, or before a write of the cell.
+    pub(crate) fn is_telling(&self, read: u32, cell: u32, around: &Around) -> Option<bool> {
+        if !is_covered(&around.before, self.clocks.row(read)?) {
+            return Some(true);
+        }
         let (owner, _) = self.given.numbering.spot(read)?;
-        for (process, place) in (0..self.procs).zip(places) {
+        for (process, place) in (0..self.procs).zip(around.after) {
             let known = self.after(read, process)?;
             if process != owner && self.is_written(process, cell, place, known)? {
                 return Some(true);
             }
         }
         Some(false)
-    }
-
-    // From which place on the operations of each process come after all writes that are left for the read.
-    fn after_all_left(&self, read: u32) -> Option<[u32; MOST_PROCESSES]> {
-        let mut places = [0; MOST_PROCESSES];
-        for bounds in self.candidates.row(read)? {
-            if let Some((_, last)) = bounds.ends {
-                raise_to(&mut places, self.afters.row(last)?);
-            }
-        }
-        Some(places)
     }
 }
 

@@ -1,7 +1,6 @@
 //! What a read may see, by what is known of the writes of the value that it found.
 use crate::candidates::Bounds;
 use crate::claims::Claim;
-use crate::narrowing::CandidatesLeft;
 use crate::search::Search;
 
 /// Of one process: the last of those writes that is hidden from the read, the first and the last that are left, and the first
@@ -11,21 +10,22 @@ pub(crate) struct Share {
     pub(crate) hidden: Option<u32>,
     pub(crate) left: Option<(u32, u32)>,
     pub(crate) later: Option<u32>,
-    pub(crate) unseen: [(usize, usize); 2],
+    pub(crate) unseen: [(u32, u32); 2],
 }
 
 /// Where writes of one process stand in the list of a value: those from `begin` to `end`, of which those below `low` are
 /// hidden, and those from `high` on come after the read.
 #[derive(Clone, Copy)]
 struct Ranges {
-    begin: usize,
-    low: usize,
-    high: usize,
-    end: usize,
+    begin: u32,
+    low: u32,
+    high: u32,
+    end: u32,
 }
 
-pub(crate) fn part(list: &[u32], from: usize, to: usize) -> &[u32] {
-    match list.get(from..to) {
+/// What stands in a list from one place on, before another.
+pub(crate) fn part(list: &[u32], from: u32, to: u32) -> &[u32] {
+    match list.get(from as usize..to as usize) {
         Some(part) => part,
         None => &[],
     }
@@ -35,7 +35,7 @@ impl Share {
     // Of the writes within these ranges, of which those within the bounds are left.
     fn of(list: &[u32], ranges: Ranges, bounds: Bounds) -> Share {
         let (from, to) = match bounds.ends {
-            Some(_) => (bounds.low as usize, bounds.high as usize),
+            Some(_) => (bounds.low, bounds.high),
             None => (ranges.high, ranges.high),
         };
         Share {
@@ -69,21 +69,15 @@ impl Search {
         self.given.numbering.number(process, at)
     }
 
-    /// What is known of what a read of a value of a cell may see, of which this was just found to be left.
-    pub(crate) fn view(
-        &self,
-        read: u32,
-        cell: u32,
-        value: u32,
-        left: CandidatesLeft,
-    ) -> Option<ReadView> {
+    /// What is known of what a read of a value of a cell may see.
+    pub(crate) fn view(&self, read: u32, cell: u32, value: u32) -> Option<ReadView> {
         let mut view = ReadView {
             read,
             cell,
             value,
             last_writes: Vec::new(self.alloc),
             shares: Vec::new(self.alloc),
-            is_first_left: left.is_first_left,
+            is_first_left: self.candidates.is_first_left(read)?,
         };
         let hidden = self.hidden(read, cell)?;
         for (process, count) in (0..self.procs).zip(hidden.counts) {
@@ -98,11 +92,11 @@ impl Search {
 
     /// Whether a read of this value may see first contents, where no write is known to come before it.
     pub(crate) fn may_see_first(&self, read: u32, cell: u32, value: u32) -> Option<bool> {
-        let given = match self.given.values.first(cell)? {
+        let known = match self.given.values.first(cell)? {
             Some(first) => Some(first),
             None => self.read_facts.first(cell)?.map(|(first, _)| first),
         };
-        Some(given.is_none_or(|first| first == value) && self.unseen_first(read)?.is_none())
+        Some(known.is_none_or(|first| first == value) && self.unseen_first(read)?.is_none())
     }
 
     /// The step that tells that the read doesn't see first contents, if there is one.
@@ -133,24 +127,16 @@ impl Search {
             let count = self.given.numbering.count(process)?;
             (self.after(view.read, process)?, count)
         };
+        let writers = &self.given.writers;
         let ranges = Ranges {
-            begin: self.given.writers.count(view.value, start)?,
-            low: self
-                .given
-                .writers
-                .count(view.value, start.checked_add(hidden)?)?,
-            high: self
-                .given
-                .writers
-                .count(view.value, start.checked_add(later)?)?,
-            end: self
-                .given
-                .writers
-                .count(view.value, start.checked_add(end)?)?,
+            begin: writers.count(view.value, start)?,
+            low: writers.count(view.value, start.checked_add(hidden)?)?,
+            high: writers.count(view.value, start.checked_add(later)?)?,
+            end: writers.count(view.value, start.checked_add(end)?)?,
         };
         if ranges.begin < ranges.end {
             let bounds = self.candidates.get(view.read, process)?;
-            let share = Share::of(self.given.writers.of(view.value)?, ranges, bounds);
+            let share = Share::of(writers.of(view.value)?, ranges, bounds);
             view.shares.push(share).ok()?;
         }
         Some(())

@@ -2,6 +2,7 @@
 use crate::claims::{Claim, Kind};
 use crate::drawn_steps::{Need, Why};
 use crate::evidence::Goal;
+use crate::narrowing::Around;
 use crate::read_views::ReadView;
 use crate::search::Search;
 use crate::waiting::News;
@@ -53,43 +54,38 @@ impl Search {
 
     fn visit_open(&mut self, read: u32, cell: u32, value: u32) -> Option<()> {
         self.burn(self.procs.saturating_mul(OPEN_VISIT))?;
-        let left = self.narrow(read, cell, value)?;
-        self.note_left(read, left.len())?;
-        if !self.is_telling(read, cell, left)? {
+        self.narrow(read, cell, value)?;
+        let (left, around) = (self.candidates.left(read)?, self.around(read)?);
+        if left > 1 && !self.is_telling(read, cell, &around)? {
             return Some(());
         }
         self.burn(self.procs.checked_mul(self.procs)?)?;
-        let view = self.view(read, cell, value, left)?;
-        self.look(&view, left.writes)
-    }
-
-    // Draws what follows from what is left for the read.
-    fn look(&mut self, view: &ReadView, writes: u32) -> Option<()> {
-        match writes {
-            0 if !view.is_first_left => {
-                let claim = Claim::before(view.read, view.read);
-                self.draw_by(view, claim, Why::AfterAll, Goal::Nothing)?;
+        let view = self.view(read, cell, value)?;
+        match (left, view.is_first_left) {
+            (0, _) => {
+                let claim = Claim::before(read, read);
+                self.draw_by(&view, claim, Why::AfterAll, Goal::Nothing)?;
+                return Some(());
             }
-            1 if !view.is_first_left => {
-                let (write, _) = view.shares.iter().filter_map(|share| share.left).next()?;
-                let claim = Claim::sees(write, view.read);
-                let id = self.draw_by(view, claim, Why::Source, Goal::Nothing)?;
-                self.settle(claim, id)?;
-            }
-            _ => {
-                if writes == 0 {
-                    self.settle_first(view)?;
-                }
-                self.draw_around(view)?;
-            }
+            (1, false) => return self.settle_last(&view),
+            (1, true) => self.settle_first(&view)?,
+            _ => {}
         }
-        Some(())
+        self.draw_around(&view, &around)
     }
 
     // Draws an order by all that the read may see.
     fn draw_by(&mut self, view: &ReadView, claim: Claim, why: Why, goal: Goal) -> Option<u32> {
         let needs = self.needs(view, goal)?;
         self.draw(claim, why, &needs)
+    }
+
+    // The read sees the one write that is left.
+    fn settle_last(&mut self, view: &ReadView) -> Option<()> {
+        let (write, _) = view.shares.iter().filter_map(|share| share.left).next()?;
+        let claim = Claim::sees(write, view.read);
+        let id = self.draw_by(view, claim, Why::Source, Goal::Nothing)?;
+        self.settle(claim, id)
     }
 
     // The read sees first contents: of an unset cell that is news for other reads.
@@ -109,26 +105,20 @@ impl Search {
     }
 
     // The read comes after what all that is left comes after, and before the writes that all of it comes before.
-    fn draw_around(&mut self, view: &ReadView) -> Option<()> {
-        for process in 0..self.procs {
-            if self.contradiction.is_some() {
-                break;
-            }
-            if !view.is_first_left {
-                self.draw_after_all(view, process)?;
+    fn draw_around(&mut self, view: &ReadView, around: &Around) -> Option<()> {
+        for ((process, count), place) in (0..self.procs).zip(around.before).zip(around.after) {
+            if self.contradiction.is_none() {
+                self.draw_after_all(view, process, count)?;
             }
             if self.contradiction.is_none() {
-                self.draw_before_all(view, process)?;
+                self.draw_before_all(view, process, place)?;
             }
         }
         Some(())
     }
 
-    fn draw_after_all(&mut self, view: &ReadView, process: u32) -> Option<()> {
-        let mut count = u32::MAX;
-        for (first, _) in view.shares.iter().filter_map(|share| share.left) {
-            count = count.min(self.up_to(first, process)?);
-        }
+    // So many of a process come before all that is left.
+    fn draw_after_all(&mut self, view: &ReadView, process: u32, count: u32) -> Option<()> {
         if count > self.before(view.read, process)? {
             let from = self.given.numbering.number(process, count.checked_sub(1)?)?;
             let claim = Claim::before(from, view.read);
@@ -137,11 +127,8 @@ impl Search {
         Some(())
     }
 
-    fn draw_before_all(&mut self, view: &ReadView, process: u32) -> Option<()> {
-        let mut place = 0;
-        for (_, last) in view.shares.iter().filter_map(|share| share.left) {
-            place = place.max(self.after(last, process)?);
-        }
+    // From this place on those of a process come after all that is left.
+    fn draw_before_all(&mut self, view: &ReadView, process: u32, place: u32) -> Option<()> {
         if let Some(to) = self.write_from(view.read, view.cell, process, place)
             && !self.is_before(view.read, to)?
         {

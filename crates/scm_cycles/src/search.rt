@@ -14,6 +14,9 @@ use scm_clocks::{Clocks, Flags, Given, is_covered};
 use scm_orders::Place;
 use std::alloc::Global;
 
+/// For how many operations and processes, multiplied, there are clocks at most: larger traces aren't looked at.
+const MOST_NUMBERS: u64 = 1 << 24;
+
 /// How many changes can be taken back at most, for each number of the clocks. A search that has more gives up.
 const CHANGES_OF_NUMBER: u64 = 64;
 
@@ -67,10 +70,13 @@ pub(crate) struct Search {
 }
 
 impl Search {
+    /// Before anything is drawn. `None` also where the trace is too large, or the fuel too little for what is made here.
     pub(crate) fn new(alloc: Global, sought: Sought, given: Given, fuel: u64) -> Option<Search> {
         let (procs, ops) = (given.numbering.procs()?, given.numbering.len()?);
         let cells = u32::try_from(given.values.firsts().len()).ok()?;
         let numbers = u64::from(ops).checked_mul(u64::from(procs))?;
+        MOST_NUMBERS.checked_sub(numbers)?;
+        let fuel = fuel.checked_sub(numbers.checked_mul(BURNT_OF_NUMBER)?)?;
         Some(Search {
             alloc,
             sought,
@@ -90,7 +96,7 @@ impl Search {
             rises: Rises::new(alloc, procs)?,
             flags: Flags::new(alloc, ops)?,
             contradiction: None,
-            fuel: fuel.checked_sub(numbers.checked_mul(BURNT_OF_NUMBER)?)?,
+            fuel,
             most_changes: numbers.checked_mul(CHANGES_OF_NUMBER)?,
             given,
         })

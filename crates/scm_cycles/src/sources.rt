@@ -28,8 +28,8 @@ pub struct Guess {
 
 /// What reads may see in a schedule: where no process gets farther ahead of another than by the skews of these numbers, one
 /// after the other, each larger than the one before by the first one over `divisor`; from `SKEWS` on, wherever they are. `None`
-/// where nothing was found: where no schedule exists as far as was seen, after `fuel` steps, and where memory is refused. Nothing
-/// is promised of it. What is left of the fuel stays.
+/// where nothing was found: where no schedule exists as far as was seen, after `fuel` steps, where the trace is too large, and
+/// where memory is refused. Nothing is promised of it. What is left of the fuel stays.
 pub fn find_sources(
     alloc: Global,
     given: Given,

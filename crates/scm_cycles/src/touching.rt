@@ -42,7 +42,7 @@ impl Search {
 
     // Reads that the write is the first one that is left for, of its process, or the last one.
     fn touch_open(&mut self, write: u32, side: Side) -> Option<()> {
-        let users = self.candidates.users(write, side == Side::Before)?;
+        let users = self.candidates.users(write, side)?;
         let count = users.len();
         for read in users {
             self.waiting.touch(*read, false)?;

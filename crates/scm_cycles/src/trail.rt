@@ -9,33 +9,25 @@ struct Sizes {
     rises: usize,
     changes: usize,
     afters: usize,
-    lefts: usize,
     candidates: usize,
 }
 
-/// The sizes before each supposition, and the counts of what was left for reads that changed under them.
+/// The sizes before each supposition.
 #[derive(Drop)]
 pub(crate) struct Trail {
     sizes: Vec<Sizes>,
-    lefts: Vec<(u32, u32)>,
 }
 
 impl Trail {
     pub(crate) fn new(alloc: Global) -> Trail {
         Trail {
             sizes: Vec::new(alloc),
-            lefts: Vec::new(alloc),
         }
     }
 
     /// How many suppositions there are.
     pub(crate) fn level(&self) -> u32 {
         u32::try_from(self.sizes.len()).unwrap_or(u32::MAX)
-    }
-
-    /// So much was left for the read before.
-    pub(crate) fn note_left(&mut self, read: u32, left: u32) -> Option<()> {
-        self.lefts.push((read, left)).ok()
     }
 
     /// How many steps there were before any supposition.
@@ -52,7 +44,6 @@ impl Search {
             rises: self.rises.len(),
             changes: self.clocks.changes(),
             afters: self.afters.changes(),
-            lefts: self.trail.lefts.len(),
             candidates: self.candidates.changes(),
         };
         self.trail.sizes.push(sizes).ok()
@@ -76,10 +67,6 @@ impl Search {
         self.rises.take_back(sizes.rises)?;
         let steps = self.candidates.take_back(sizes.candidates)?;
         self.burn_for(steps)?;
-        for _ in sizes.lefts..self.trail.lefts.len() {
-            let (read, left) = self.trail.lefts.pop()?;
-            self.choices.set_left(read, left)?;
-        }
         for _ in sizes.steps..self.steps.len()? {
             let step = self.steps.take_back()?;
             let read = step.claim.to;
