@@ -69,10 +69,9 @@ impl Search {
     // What shows that all of a clause but one claim is false, in the order in which its block supposes it.
     fn clause_needs(&self, k: u32, claim: Claim) -> Option<Vec<Need>> {
         let mut needs = Vec::new(self.alloc);
-        for supposed in self.clauses.supposed(k)? {
-            let other = supposed.negation();
-            if other != claim {
-                needs.push(self.falsity(other)?).ok()?;
+        for other in self.clauses.claims(k)? {
+            if *other != claim {
+                needs.push(self.falsity(*other)?).ok()?;
             }
         }
         Some(needs)

@@ -56,8 +56,7 @@ struct BoundsChange {
 }
 
 /// For each operation and each process the bounds of what is left for it to see, but for what single steps rule out between
-/// others that are left; and after those of the processes, whether first contents are. Of a read whose source is known nothing is
-/// left.
+/// others that are left; and last whether first contents are left. Of a read whose source is known nothing is.
 #[derive(Drop)]
 pub(crate) struct Candidates {
     procs: u32,
@@ -145,7 +144,8 @@ impl Candidates {
         self.bounds.get(at as usize).copied()
     }
 
-    /// The reads that have a write as the first one that is left of its process, for what comes before it, or as the last one.
+    /// The reads that a change of what comes before a write concerns, or after it: those for which it is the first one that is
+    /// left of its process, or the last one.
     pub(crate) fn users(&self, write: u32, side: Side) -> Option<&[u32]> {
         match side {
             Side::Before => self.firsts.of(write),

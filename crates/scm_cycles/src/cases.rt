@@ -121,54 +121,28 @@ impl Search {
             },
             Sought::Refutation => gather(self.alloc, self, &conflict)?,
         };
-        let supposed = self.supposed(&conflict)?;
-        let (claims, level) = self.claims(&conflict)?;
+        let (claims, second, level) = self.negations(&conflict)?;
+        let (newest, others) = claims.split_last()?;
+        let (newest, watched) = (*newest, [others.len(), second]);
         let base = self.trail.first_steps()?;
-        let first = *claims.first()?;
         self.choices.age();
         self.undo_to(level)?;
-        let k = self.clauses.add(supposed, claims, block, base)?;
-        self.infer(k, first)
+        let k = self.clauses.add(claims, watched, block, base)?;
+        self.infer(k, newest)
     }
 
-    fn supposed(&self, conflict: &Conflict) -> Option<Vec<Claim>> {
-        let mut supposed = Vec::new(self.alloc);
-        for order in &conflict.orders {
-            supposed.push(Claim::before(order.from, order.to)).ok()?;
-        }
-        for id in &conflict.steps {
-            supposed.push(self.steps.get(*id)?.claim).ok()?;
-        }
-        Some(supposed)
-    }
-
-    // The negations, first that of the last step, then one of the highest level but that; and this level.
-    fn claims(&self, conflict: &Conflict) -> Option<(Vec<Claim>, u32)> {
+    // The negations of the steps that contradict each other; where one stands of the highest level but that of the newest step;
+    // and this level.
+    fn negations(&self, conflict: &Conflict) -> Option<(Vec<Claim>, usize, u32)> {
         let mut claims = Vec::new(self.alloc);
-        let (last, others) = conflict.steps.split_last()?;
-        claims.push(self.steps.get(*last)?.claim.negation()).ok()?;
-        let mut level = 0;
-        for order in &conflict.orders {
-            let claim = Claim::before(order.to, order.from);
-            level = add_claim(&mut claims, claim, order.level, level)?;
-        }
-        for id in others {
+        let (mut second, mut level) = (0, 0);
+        for id in &conflict.steps {
             let step = self.steps.get(*id)?;
-            level = add_claim(&mut claims, step.claim.negation(), step.level, level)?;
+            if level < step.level && step.level < conflict.level {
+                (second, level) = (claims.len(), step.level);
+            }
+            claims.push(step.claim.negation()).ok()?;
         }
-        Some((claims, level))
+        Some((claims, second, level))
     }
-}
-
-// Adds a claim of this level, as the second one where the others are of lower ones. The highest level of them.
-fn add_claim(claims: &mut Vec<Claim>, claim: Claim, level: u32, highest: u32) -> Option<u32> {
-    claims.push(claim).ok()?;
-    if level <= highest {
-        return Some(highest);
-    }
-    let last = claims.len().checked_sub(1)?;
-    let second = *claims.get(1)?;
-    *claims.get_mut(1)? = claim;
-    *claims.get_mut(last)? = second;
-    Some(level)
 }

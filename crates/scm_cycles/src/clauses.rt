@@ -6,12 +6,12 @@ use std::alloc::Global;
 /// The most lines of all blocks together.
 const MOST_BLOCK_LINES: usize = 1 << 22;
 
-/// What isn't all so; the negations of that, of which one is true, with the two that are watched first; the block that shows
-/// it, and how many steps were outside of blocks then.
+/// Claims of which one is true, and where the two stand that are watched; the block that shows it, and how many steps were
+/// outside of blocks then.
 #[derive(Drop)]
 struct Clause {
-    supposed: Vec<Claim>,
     claims: Vec<Claim>,
+    watched: [usize; 2],
     block: Derivation,
     base: u32,
 }
@@ -44,8 +44,8 @@ impl Clauses {
     /// Adds one, and gives its number.
     pub(crate) fn add(
         &mut self,
-        supposed: Vec<Claim>,
         claims: Vec<Claim>,
+        watched: [usize; 2],
         block: Derivation,
         base: u32,
     ) -> Option<u32> {
@@ -54,8 +54,8 @@ impl Clauses {
         let is_full = self.lines > MOST_BLOCK_LINES;
         self.list
             .push(Clause {
-                supposed,
                 claims,
+                watched,
                 block,
                 base,
             })
@@ -69,15 +69,15 @@ impl Clauses {
 
     // One claim alone isn't watched, since it holds from then on.
     fn watch_two(&mut self, k: u32) -> Option<()> {
-        let Some(second) = self.claim(k, 1) else {
-            return Some(());
-        };
-        let first = self.claim(k, 0)?.watched();
-        self.watch(first, k)?;
-        if second.watched() == first {
+        if self.claims(k)?.len() < 2 {
             return Some(());
         }
-        self.watch(second.watched(), k)
+        let (first, second) = (self.watched(k, 0)?.watched(), self.watched(k, 1)?.watched());
+        self.watch(first, k)?;
+        if second == first {
+            return Some(());
+        }
+        self.watch(second, k)
     }
 
     pub(crate) fn watch(&mut self, x: u32, k: u32) -> Option<()> {
@@ -104,27 +104,25 @@ impl Clauses {
         Some(())
     }
 
-    /// A claim of a clause.
-    pub(crate) fn claim(&self, k: u32, at: usize) -> Option<Claim> {
-        self.list.get(k as usize)?.claims.get(at).copied()
+    /// Where the two claims of a clause stand that are watched.
+    pub(crate) fn places(&self, k: u32) -> Option<[usize; 2]> {
+        Some(self.list.get(k as usize)?.watched)
+    }
+
+    /// One of these two.
+    pub(crate) fn watched(&self, k: u32, which: usize) -> Option<Claim> {
+        let clause = self.list.get(k as usize)?;
+        clause.claims.get(*clause.watched.get(which)?).copied()
     }
 
     pub(crate) fn claims(&self, k: u32) -> Option<&[Claim]> {
         Some(self.list.get(k as usize)?.claims.as_slice())
     }
 
-    /// Another claim is watched in the place of this one.
-    pub(crate) fn exchange(&mut self, k: u32, at: usize, other: usize) -> Option<()> {
-        let claims = &mut self.list.get_mut(k as usize)?.claims;
-        let (one, two) = (*claims.get(at)?, *claims.get(other)?);
-        *claims.get_mut(at)? = two;
-        *claims.get_mut(other)? = one;
+    /// Another claim is watched in the place of this one of the two.
+    pub(crate) fn watch_other(&mut self, k: u32, which: usize, place: usize) -> Option<()> {
+        *self.list.get_mut(k as usize)?.watched.get_mut(which)? = place;
         Some(())
-    }
-
-    /// What isn't all so.
-    pub(crate) fn supposed(&self, k: u32) -> Option<&[Claim]> {
-        Some(self.list.get(k as usize)?.supposed.as_slice())
     }
 
     pub(crate) fn block(&self, k: u32) -> Option<&Derivation> {

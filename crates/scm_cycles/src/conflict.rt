@@ -1,28 +1,18 @@
 //! Why suppositions contradict each other.
 use crate::claims::Claim;
 use crate::drawn_steps::{Need, Why};
-use crate::path_pieces::PathPiece;
 use crate::search::Search;
 use std::alloc::Global;
 
 /// Which part of a list of rises a way is looked for in, mostly.
 const PART_OF_LIST: usize = 8;
 
-/// That the one operation comes before the other, known since this level.
-#[derive(Clone, Copy)]
-pub(crate) struct KnownOrder {
-    pub(crate) from: u32,
-    pub(crate) to: u32,
-    pub(crate) level: u32,
-}
-
-/// What contradicts itself together: orders and steps of lower levels, and one step of the level of the contradiction.
-/// Without suppositions the level is 0, and nothing else is filled in.
+/// What contradicts itself together: steps of lower levels, and last one of the level of the contradiction. Where it needs no
+/// supposition the level is 0, and there are none.
 #[derive(Drop)]
 pub(crate) struct Conflict {
     pub(crate) contradiction: u32,
     pub(crate) level: u32,
-    pub(crate) orders: Vec<KnownOrder>,
     pub(crate) steps: Vec<u32>,
     is_seen: Vec<bool>,
     open: u32,
@@ -34,7 +24,6 @@ impl Conflict {
         Some(Conflict {
             contradiction,
             level,
-            orders: Vec::new(alloc),
             steps: Vec::new(alloc),
             is_seen: vec![in alloc; false; count as usize].ok()?,
             open: 0,
@@ -48,11 +37,6 @@ impl Conflict {
         *is_seen = true;
         Some(is_new)
     }
-
-    /// Whether the step is one of those that contradict each other.
-    pub(crate) fn has(&self, id: u32) -> bool {
-        self.steps.contains(&id)
-    }
 }
 
 impl Search {
@@ -61,7 +45,7 @@ impl Search {
         let needs = self.contradiction_needs(contradiction)?;
         let mut level = 0;
         for need in &needs {
-            level = level.max(self.need_level(*need)?);
+            level = level.max(self.level_of(*need)?);
         }
         let mut conflict = Conflict::new(self.alloc, contradiction, level)?;
         if level > 0 {
@@ -71,9 +55,18 @@ impl Search {
         Some(conflict)
     }
 
-    /// What the contradiction of a step that closed a cycle follows from. A step just before it that a clause gave is no
-    /// more than a part of it.
-    pub(crate) fn contradiction_needs(&self, contradiction: u32) -> Option<Vec<Need>> {
+    // The last supposition that something needed goes by.
+    fn level_of(&self, need: Need) -> Option<u32> {
+        let mut level = 0;
+        for id in &self.steps_of(need)? {
+            level = level.max(self.steps.get(*id)?.level);
+        }
+        Some(level)
+    }
+
+    // What the contradiction of a step that closed a cycle follows from. A step just before it that a clause gave is no
+    // more than a part of it.
+    fn contradiction_needs(&self, contradiction: u32) -> Option<Vec<Need>> {
         let mut needs = Vec::new(self.alloc);
         for at in self.steps.needs(contradiction)? {
             let need = self.steps.need(at)?;
@@ -130,21 +123,8 @@ impl Search {
         for need in needs {
             self.burn(self.procs)?;
             self.burn_for(list)?;
-            if let Need::Step(id) = *need {
-                self.add_step(conflict, id)?;
-            }
-            for (from, to) in Search::orders_of(*need).into_iter().flatten() {
-                self.add_way(conflict, from, to)?;
-            }
-        }
-        Some(())
-    }
-
-    fn add_way(&mut self, conflict: &mut Conflict, from: u32, to: u32) -> Option<()> {
-        for piece in &self.pieces(from, to, conflict.level)? {
-            match *piece {
-                PathPiece::Step(id) => self.add_step(conflict, id)?,
-                PathPiece::Stretch { from, to } => self.add_order(conflict, from, to)?,
+            for id in &self.steps_of(*need)? {
+                self.add_step(conflict, *id)?;
             }
         }
         Some(())
@@ -162,45 +142,5 @@ impl Search {
             conflict.open = conflict.open.checked_add(1)?;
             Some(())
         }
-    }
-
-    fn add_order(&mut self, conflict: &mut Conflict, from: u32, to: u32) -> Option<()> {
-        let level = self.order_level(from, to)?;
-        if level == 0 || self.is_covered(conflict, from, to)? {
-            return Some(());
-        }
-        self.bump_way(from, to)?;
-        conflict.orders.push(KnownOrder { from, to, level }).ok()
-    }
-
-    fn bump_way(&mut self, from: u32, to: u32) -> Option<()> {
-        for id in &self.path(from, to)? {
-            let step = self.steps.get(*id)?;
-            if step.level > 0 {
-                self.choices.bump(step.claim)?;
-            }
-        }
-        Some(())
-    }
-
-    // Whether an order of the contradiction shows this one by the order of processes.
-    fn is_covered(&self, conflict: &Conflict, from: u32, to: u32) -> Option<bool> {
-        for order in &conflict.orders {
-            if self.covers((order.from, order.to), (from, to))? {
-                return Some(true);
-            }
-        }
-        Some(false)
-    }
-
-    /// The step of the contradiction that shows this order, if one does.
-    pub(crate) fn shown_by(&self, conflict: &Conflict, ends: (u32, u32)) -> Option<Option<u32>> {
-        for id in &conflict.steps {
-            let claim = self.steps.get(*id)?.claim;
-            if claim.is_order() && self.covers((claim.from, claim.to), ends)? {
-                return Some(Some(*id));
-            }
-        }
-        Some(None)
     }
 }

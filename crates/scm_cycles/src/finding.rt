@@ -17,8 +17,8 @@ const MOST_FUEL: u64 = 1 << 25;
 
 /// A derivation that refutes the trace with these first contents (`None` is an open cell) and these sequences, cut to
 /// these lengths, or `None` where none was found: where a schedule exists, after so many steps for each operation, where the
-/// trace is too large or a derivation would be too long, and where memory is refused. Nothing is promised of it: `scm_orders::orders_refute` tells whether it is
-/// one.
+/// trace is too large or a derivation would be too long, and where memory is refused. Nothing is promised of it:
+/// `scm_orders::orders_refute` tells whether it is one.
 pub fn find_cycle(
     alloc: Global,
     initials: &[Option<u64>],

@@ -3,11 +3,12 @@ use crate::claims::{Claim, Kind};
 use crate::conflict::Conflict;
 use crate::drawn_steps::{Need, Step, Why};
 use crate::lines::Lines;
-use crate::path_pieces::PathPiece;
 use crate::search::Search;
-use crate::ways::{OUTSIDE, Written};
 use scm_orders::{Derivation, Fact, Line, Rule};
 use std::alloc::Global;
+
+/// In a block, this bit and the number of a step stand for the line of that step, outside of all blocks.
+const OUTSIDE: u32 = 1 << 31;
 
 /// Which steps and which clauses are needed, by number, the line that each was written as, and the line that each clause's
 /// block ended with.
@@ -18,7 +19,7 @@ struct Gathering<'a> {
     is_needed: Vec<bool>,
     is_clause_needed: Vec<bool>,
     ends: Vec<Option<u32>>,
-    written: Written<'a>,
+    line_of: Vec<Option<u32>>,
     lines: Lines,
 }
 
@@ -46,46 +47,39 @@ impl<'a> Gathering<'a> {
             is_needed: vec![in alloc; false; count].ok()?,
             is_clause_needed: vec![in alloc; false; clauses].ok()?,
             ends: vec![in alloc; None; clauses].ok()?,
-            written: Written {
-                search,
-                conflict,
-                line_of: vec![in alloc; None; count].ok()?,
-            },
+            line_of: vec![in alloc; None; count].ok()?,
             lines: Lines::new(alloc),
         })
     }
 
-    // The level up to which a step's needs are steps and not stretches.
-    fn level_of(&self, id: u32) -> Option<u32> {
-        if id == self.conflict.contradiction {
-            return Some(self.conflict.level);
-        }
-        Some(self.search.steps.get(id)?.level.min(self.conflict.level))
-    }
-
     fn suppose(&mut self) -> Option<()> {
         let conflict = self.conflict;
-        for order in &conflict.orders {
-            self.add_supposed(Claim::before(order.from, order.to))?;
-        }
         for id in &conflict.steps {
             let claim = self.search.steps.get(*id)?.claim;
-            let line = self.add_supposed(claim)?;
-            *self.written.line_of.get_mut(*id as usize)? = Some(line);
+            let fact = self.fact_of(claim)?;
+            let line = self.lines.add(fact, Rule::Assumed, &[])?;
+            *self.line_of.get_mut(*id as usize)? = Some(line);
         }
         Some(())
     }
 
-    fn add_supposed(&mut self, claim: Claim) -> Option<u32> {
-        let fact = self.fact_of(claim)?;
-        self.lines.add(fact, Rule::Assumed, &[])
+    // Whether the step's line stands outside of the block that is written.
+    fn is_outside(&self, id: u32) -> Option<bool> {
+        Some(self.conflict.level > 0 && self.search.steps.get(id)?.level == 0)
+    }
+
+    fn line(&self, id: u32) -> Option<u32> {
+        if self.is_outside(id)? {
+            return Some(id | OUTSIDE);
+        }
+        *self.line_of.get(id as usize)?
     }
 
     fn need(&mut self, id: u32) -> Option<()> {
-        if self.conflict.has(id) || self.written.is_outside(id)? {
-            return Some(());
+        let is_supposed = self.line_of.get(id as usize)?.is_some();
+        if !is_supposed && !self.is_outside(id)? {
+            *self.is_needed.get_mut(id as usize)? = true;
         }
-        *self.is_needed.get_mut(id as usize)? = true;
         Some(())
     }
 
@@ -94,15 +88,8 @@ impl<'a> Gathering<'a> {
         let Claim { from, to, .. } = self.search.steps.get(contradiction)?.claim;
         *self.is_needed.get_mut(contradiction as usize)? = true;
         if from != to {
-            self.need_way(to, from, self.conflict.level)?;
-        }
-        Some(())
-    }
-
-    fn need_way(&mut self, from: u32, to: u32, level: u32) -> Option<()> {
-        for piece in &self.search.pieces(from, to, level)? {
-            if let PathPiece::Step(id) = *piece {
-                self.need(id)?;
+            for id in &self.search.path(to, from)? {
+                self.need(*id)?;
             }
         }
         Some(())
@@ -166,14 +153,10 @@ impl<'a> Gathering<'a> {
         if let Why::Clause(k) = self.search.steps.get(id)?.why {
             *self.is_clause_needed.get_mut(k as usize)? = true;
         }
-        let level = self.level_of(id)?;
         for at in self.search.steps.needs(id)? {
             let need = self.search.steps.need(at)?;
-            if let Need::Step(id) = need {
-                self.need(id)?;
-            }
-            for (from, to) in Search::orders_of(need).into_iter().flatten() {
-                self.need_way(from, to, level)?;
+            for id in &self.search.steps_of(need)? {
+                self.need(*id)?;
             }
         }
         Some(())
@@ -220,7 +203,7 @@ impl<'a> Gathering<'a> {
         let mut hints = Vec::new(self.search.alloc);
         for hint in named {
             let number = if *hint >= OUTSIDE {
-                self.written.line(*hint & !OUTSIDE)?
+                self.line(*hint & !OUTSIDE)?
             } else {
                 hint.checked_add(first)?
             };
@@ -248,11 +231,10 @@ impl<'a> Gathering<'a> {
             return Some(());
         }
         let step = self.search.steps.get(id)?;
-        let level = self.level_of(id)?;
         let mut hints = Vec::new(self.search.alloc);
         for at in self.search.steps.needs(id)? {
             let need = self.search.steps.need(at)?;
-            if let Some(line) = self.name(need, level)?
+            if let Some(line) = self.name(need)?
                 && (is_clause(step) || !hints.contains(&line))
             {
                 hints.push(line).ok()?;
@@ -260,7 +242,7 @@ impl<'a> Gathering<'a> {
         }
         let (fact, rule) = (self.fact_of(step.claim)?, self.rule_of(step.why)?);
         let line = self.lines.add(fact, rule, &hints)?;
-        *self.written.line_of.get_mut(id as usize)? = Some(line);
+        *self.line_of.get_mut(id as usize)? = Some(line);
         Some(())
     }
 
@@ -288,51 +270,55 @@ impl<'a> Gathering<'a> {
     }
 
     // The line that shows what is needed: none where the order of a process does.
-    fn name(&mut self, need: Need, level: u32) -> Option<Option<u32>> {
+    fn name(&mut self, need: Need) -> Option<Option<u32>> {
         Some(match need {
-            Need::Step(id) => Some(self.written.line(id)?),
-            Need::Order { from, to } => self.name_order(from, to, level)?,
-            Need::Hiding { from, to } => Some(self.name_from(from, to, level)?),
-            Need::Hidden { write, by, read } => Some(self.name_hidden(write, by, read, level)?),
+            Need::Step(id) => Some(self.line(id)?),
+            Need::Order { from, to } => self.name_order(from, to)?,
+            Need::Hiding { from, to } => Some(self.name_from(from, to)?),
+            Need::Hidden { write, by, read } => Some(self.name_hidden(write, by, read)?),
         })
     }
 
-    fn name_order(&mut self, from: u32, to: u32, level: u32) -> Option<Option<u32>> {
-        let way = self.written.way(from, to, level)?;
-        match way.hints.first() {
-            Some(hint) if way.hints.len() == 1 => Some(Some(*hint)),
-            Some(_) => Some(Some(self.join(&way.hints, way.begin, to)?)),
-            None => Some(None),
+    fn name_order(&mut self, from: u32, to: u32) -> Option<Option<u32>> {
+        let path = self.search.path(from, to)?;
+        match path.as_slice() {
+            [] => Some(None),
+            [id] => Some(Some(self.line(*id)?)),
+            _ => Some(Some(self.join(&path, from, to)?)),
         }
     }
 
     // By a line that begins at the one operation.
-    fn name_from(&mut self, from: u32, to: u32, level: u32) -> Option<u32> {
-        let way = self.written.way(from, to, level)?;
-        match way.hints.first() {
-            Some(hint) if way.hints.len() == 1 && way.start == from => Some(*hint),
-            _ => self.join(&way.hints, from, to),
+    fn name_from(&mut self, from: u32, to: u32) -> Option<u32> {
+        let path = self.search.path(from, to)?;
+        match path.as_slice() {
+            [id] if self.search.steps.get(*id)?.claim.from == from => self.line(*id),
+            _ => self.join(&path, from, to),
         }
     }
 
-    // The line that joins these, from the one operation to the other.
-    fn join(&mut self, hints: &[u32], from: u32, to: u32) -> Option<u32> {
+    // The line that joins those of these steps, from the one operation to the other.
+    fn join(&mut self, path: &[u32], from: u32, to: u32) -> Option<u32> {
         let key = (from, from, to);
         if let Some(line) = self.lines.known(key) {
             return Some(line);
         }
+        let mut hints = Vec::new(self.search.alloc);
+        for id in path {
+            hints.push(self.line(*id)?).ok()?;
+        }
         let fact = self.fact_of(Claim::before(from, to))?;
-        self.lines.keep(key, fact, Rule::Joined, hints)
+        self.lines.keep(key, fact, Rule::Joined, &hints)
     }
 
-    fn name_hidden(&mut self, write: u32, by: u32, read: u32, level: u32) -> Option<u32> {
+    fn name_hidden(&mut self, write: u32, by: u32, read: u32) -> Option<u32> {
         let key = (by, write, read);
         if let Some(line) = self.lines.known(key) {
             return Some(line);
         }
         let mut hints = Vec::new(self.search.alloc);
         for (from, to) in [(write, by), (by, read)] {
-            if let Some(line) = self.name_order(from, to, level)? {
+            if let Some(line) = self.name_order(from, to)? {
                 hints.push(line).ok()?;
             }
         }
@@ -349,14 +335,14 @@ impl<'a> Gathering<'a> {
         if from == to {
             return Some(());
         }
-        let way = self.written.way(to, from, self.conflict.level)?;
-        if way.hints.is_empty() {
+        let path = self.search.path(to, from)?;
+        if path.is_empty() {
             return Some(());
         }
         let mut hints = Vec::new(self.search.alloc);
-        hints.push(self.written.line(contradiction)?).ok()?;
-        for hint in &way.hints {
-            hints.push(*hint).ok()?;
+        hints.push(self.line(contradiction)?).ok()?;
+        for id in &path {
+            hints.push(self.line(*id)?).ok()?;
         }
         let fact = self.fact_of(Claim::before(from, from))?;
         self.lines.add(fact, Rule::Joined, &hints)?;

@@ -20,7 +20,6 @@ mod gathering;
 mod lines;
 mod narrowing;
 mod open_reads;
-mod path_pieces;
 mod read_facts;
 mod read_views;
 mod rises;
@@ -34,7 +33,6 @@ mod truth;
 mod users;
 mod waiting;
 mod watching;
-mod ways;
 
 pub use finding::find_cycle;
 pub use sources::{Guess, SKEWS, find_sources};

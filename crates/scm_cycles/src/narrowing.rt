@@ -12,7 +12,8 @@ pub(crate) struct Hidden {
     is_written: bool,
 }
 
-/// How many operations of each process come before all that is left for a read, and from which place on they come after all of it.
+/// How many operations of each process come before all that is left for a read, and from which place on those of each come after
+/// all of it.
 #[derive(Clone, Copy)]
 pub(crate) struct Around {
     pub(crate) before: [u32; MOST_PROCESSES],
@@ -132,7 +133,7 @@ impl Search {
         Some(())
     }
 
-    /// Whether that tells something of the read that isn't known: that it comes after more, or before a write of the cell.
+    /// Whether this tells more of the read than is known: that it comes after more, or before another write of the cell.
     pub(crate) fn is_telling(&self, read: u32, cell: u32, around: &Around) -> Option<bool> {
         if !is_covered(&around.before, self.clocks.row(read)?) {
             return Some(true);

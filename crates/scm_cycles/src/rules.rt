@@ -10,6 +10,15 @@ use crate::waiting::News;
 /// How many times as much a visit burns of a read whose source is open as of one whose source is settled.
 const OPEN_VISIT: u32 = 3;
 
+/// A read of a cell that sees a write, by a step.
+#[derive(Clone, Copy)]
+struct SeenWrite {
+    write: u32,
+    read: u32,
+    cell: u32,
+    step: u32,
+}
+
 impl Search {
     /// Draws all that follows, round by round, until a cycle is closed or nothing is new. The step that closed it, if one did.
     pub(crate) fn run(&mut self) -> Option<Option<u32>> {
@@ -150,12 +159,18 @@ impl Search {
     }
 
     // Draws what follows from what is seen.
-    fn follow_source(&mut self, read: u32, cell: u32, source: u32, news: News) -> Option<()> {
-        let claim = self.steps.get(source)?.claim;
-        match claim.kind {
-            Kind::SeesFirst => self.follow_first(read, cell, source),
-            _ => self.follow_write(read, cell, source, claim.from, news),
+    fn follow_source(&mut self, read: u32, cell: u32, step: u32, news: News) -> Option<()> {
+        let claim = self.steps.get(step)?.claim;
+        if claim.kind == Kind::SeesFirst {
+            return self.follow_first(read, cell, step);
         }
+        let seen = SeenWrite {
+            write: claim.from,
+            read,
+            cell,
+            step,
+        };
+        self.follow_write(seen, news)
     }
 
     // Draws what follows from first contents that are seen.
@@ -173,60 +188,51 @@ impl Search {
     }
 
     // Draws what follows from a write that is seen.
-    fn follow_write(
-        &mut self,
-        read: u32,
-        cell: u32,
-        source: u32,
-        write: u32,
-        news: News,
-    ) -> Option<()> {
+    fn follow_write(&mut self, seen: SeenWrite, news: News) -> Option<()> {
         for process in 0..self.procs {
             if self.contradiction.is_none() && news.has(process) {
-                self.draw_after_source(read, cell, source, write, process)?;
+                self.draw_after_source(seen, process)?;
             }
             if self.contradiction.is_none() && news.is_after_source() {
-                self.draw_before_next(read, cell, source, write, process)?;
+                self.draw_before_next(seen, process)?;
             }
         }
         Some(())
     }
 
     // Another write of the cell that comes before the read comes before its source.
-    fn draw_after_source(
-        &mut self,
-        read: u32,
-        cell: u32,
-        source: u32,
-        write: u32,
-        process: u32,
-    ) -> Option<()> {
+    fn draw_after_source(&mut self, seen: SeenWrite, process: u32) -> Option<()> {
+        let SeenWrite {
+            write,
+            read,
+            cell,
+            ..
+        } = seen;
         let (known, count) = (self.up_to(write, process)?, self.before(read, process)?);
         if count <= known || !self.is_written(process, cell, known, count)? {
             return Some(());
         }
         let from = self.last_write(process, cell, read)?;
-        let needs = [Need::Step(source), Need::Order { from, to: read }];
+        let needs = [Need::Step(seen.step), Need::Order { from, to: read }];
         self.draw(Claim::before(from, write), Why::AfterSource, &needs)?;
         Some(())
     }
 
     // The read comes before another write of the cell that comes after its source.
-    fn draw_before_next(
-        &mut self,
-        read: u32,
-        cell: u32,
-        source: u32,
-        write: u32,
-        process: u32,
-    ) -> Option<()> {
+    fn draw_before_next(&mut self, seen: SeenWrite, process: u32) -> Option<()> {
+        let SeenWrite {
+            write,
+            read,
+            cell,
+            ..
+        } = seen;
         let (place, known) = (self.after(write, process)?, self.after(read, process)?);
         let (owner, _) = self.given.numbering.spot(read)?;
         if owner == process || !self.is_written(process, cell, place, known)? {
             return Some(());
         }
         let to = self.write_from(read, cell, process, place)?;
-        let needs = [Need::Step(source), Need::Order { from: write, to }];
+        let needs = [Need::Step(seen.step), Need::Order { from: write, to }];
         self.draw(Claim::before(read, to), Why::BeforeAll, &needs)?;
         Some(())
     }

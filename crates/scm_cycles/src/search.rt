@@ -157,6 +157,24 @@ impl Search {
         None
     }
 
+    /// The steps that show what is needed, with the orders of processes.
+    pub(crate) fn steps_of(&self, need: Need) -> Option<Vec<u32>> {
+        let (write, by, read) = match need {
+            Need::Step(id) => {
+                let mut steps = Vec::new(self.alloc);
+                steps.push(id).ok()?;
+                return Some(steps);
+            }
+            Need::Order { from, to } | Need::Hiding { from, to } => return self.path(from, to),
+            Need::Hidden { write, by, read } => (write, by, read),
+        };
+        let mut steps = self.path(write, by)?;
+        for id in &self.path(by, read)? {
+            steps.push(*id).ok()?;
+        }
+        Some(steps)
+    }
+
     // Whether `x` stands at this place of this process, where that counts, or later there.
     fn is_from(&self, process: u32, at: u32, x: u32, counts: bool) -> Option<bool> {
         let (owner, place) = self.given.numbering.spot(x)?;

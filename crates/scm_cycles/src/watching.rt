@@ -22,12 +22,12 @@ impl Search {
 
     // Whether the clause waits for another operation in the place of this one from now on.
     fn review(&mut self, k: u32, x: u32) -> Option<bool> {
-        for (at, other) in [(0, 1), (1, 0)] {
-            let claim = self.clauses.claim(k, at)?;
+        for (which, other) in [(0, 1), (1, 0)] {
+            let claim = self.clauses.watched(k, which)?;
             if claim.watched() != x || !self.is_false(claim)? {
                 continue;
             }
-            let left = self.clauses.claim(k, other)?;
+            let left = self.clauses.watched(k, other)?;
             if self.truth(left)? == Some(true) {
                 return Some(false);
             }
@@ -35,8 +35,8 @@ impl Search {
                 self.infer(k, left)?;
                 return Some(false);
             };
-            self.clauses.exchange(k, at, new)?;
-            return self.rewatch(k, at, x, left.watched());
+            self.clauses.watch_other(k, which, new)?;
+            return self.rewatch(k, which, x, left.watched());
         }
         Some(false)
     }
@@ -45,17 +45,18 @@ impl Search {
     fn other_open(&mut self, k: u32) -> Option<Option<usize>> {
         let count = self.clauses.claims(k)?.len();
         self.burn(u32::try_from(count).ok()?)?;
-        for at in 2..count {
-            if !self.is_false(self.clauses.claim(k, at)?)? {
-                return Some(Some(at));
+        let watched = self.clauses.places(k)?;
+        for (place, claim) in self.clauses.claims(k)?.iter().enumerate() {
+            if !watched.contains(&place) && !self.is_false(*claim)? {
+                return Some(Some(place));
             }
         }
         Some(None)
     }
 
-    // The claim at this place is watched now. Whether the clause doesn't wait for `x` any more.
-    fn rewatch(&mut self, k: u32, at: usize, x: u32, other: u32) -> Option<bool> {
-        let watched = self.clauses.claim(k, at)?.watched();
+    // This one of the two is another claim now. Whether the clause doesn't wait for `x` any more.
+    fn rewatch(&mut self, k: u32, which: usize, x: u32, other: u32) -> Option<bool> {
+        let watched = self.clauses.watched(k, which)?.watched();
         if watched == x {
             return Some(false);
         }
