@@ -62,22 +62,22 @@ impl Search {
                 self.restarts.add();
                 continue;
             }
-            let Some(claim) = self.next_case()? else {
+            self.restart_if_due()?;
+            self.open_level()?;
+            let Some(claim) = self.choose()? else {
                 return Some(None);
             };
-            self.open_level()?;
             self.assert(claim, Why::Assumed, &[])?;
         }
         None
     }
 
-    // Now and then after a restart.
-    fn next_case(&mut self) -> Option<Option<Claim>> {
+    fn restart_if_due(&mut self) -> Option<()> {
         if self.restarts.are_due() {
             self.restarts = self.restarts.next();
             self.undo_to(0)?;
         }
-        self.choose()
+        Some(())
     }
 
     // Draws all that follows, until a cycle is closed or nothing is left to be looked at.
