@@ -6,8 +6,8 @@ use crate::guided_walk::GuidedWalk;
 pub(crate) enum Rank {
     /// It leaves its cell as it finds it.
     Harmless,
-    /// It has to come next on its cell.
-    Forced,
+    /// A write that takes nothing away: it has to come next on its cell, or nobody reads it, as all sources are known.
+    Safe,
     /// Another write: how far its readers are away.
     Read { distance: u32 },
 }
@@ -86,8 +86,8 @@ impl GuidedWalk {
         if self.is_barred(x, cell)? || self.readers.get(writer)? > u32::from(is_own) {
             return None;
         }
-        if is_own {
-            return Some(Rank::Forced);
+        if is_own || facts.sources.are_known && self.readers.get(x)? == 0 {
+            return Some(Rank::Safe);
         }
         Some(Rank::Read {
             distance: self.distance(x)?,

@@ -7,8 +7,8 @@ use std::alloc::Global;
 /// How many operations of a process ahead are visited during the walk.
 const WINDOW: u32 = 24;
 
-/// How many visits and moves are made for each operation that is left: so many, and as many for each process; more only where
-/// the walk gets further. The walks that come to their end need half of it.
+/// How many visits and moves a walk begins with for each operation that is left: so many, and as many for each process. It gets
+/// more where it gets further.
 const MOST_VISITS: u64 = 5;
 
 /// The clocks of all operations, and how far each process has come. `None` from a method that raises clocks says that

@@ -47,7 +47,7 @@ pub(crate) struct Proposer<'a> {
 ///
 /// `earlier` may be any list of process numbers. As far as it is a legal schedule it is gone on from: a schedule of what
 /// the trace was before, or at a mark, makes the way short. `limit` is how many situations a search may hold, and `room`
-/// how many of them it may still look at: small ones make this give up sooner.
+/// how many of them it may still look at: with few of the one walks give up sooner, with few of the other all else does.
 pub fn propose(
     alloc: Global,
     initials: &[Option<u64>],

@@ -10,6 +10,8 @@ pub(crate) struct Sources {
     of: Vec<Option<u32>>,
     /// For each writer and process the place after its last known reader there, or 0.
     pub(crate) readers: Grid,
+    /// Whether the sources of all reads are known.
+    pub(crate) are_known: bool,
 }
 
 // An open cell has at first a value that is read and that nobody writes.
@@ -57,13 +59,20 @@ impl Sources {
         let ops = given.numbering.len()?;
         let cells = u32::try_from(given.values.firsts().len()).ok()?;
         let mut readers = Grid::zeros(alloc, ops.checked_add(cells)?, given.numbering.procs()?)?;
+        let mut are_known = true;
         for x in 0..ops {
             if let Some(source) = *of.get(x as usize)? {
                 let (process, place) = given.numbering.spot(x)?;
                 readers.set(source, process, place.checked_add(1)?)?;
+            } else if given.values.found(x).is_some() {
+                are_known = false;
             }
         }
-        Some(Sources { of, readers })
+        Some(Sources {
+            of,
+            readers,
+            are_known,
+        })
     }
 
     /// How many known readers each writer has, first contents too.
