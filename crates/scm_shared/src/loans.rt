@@ -1,4 +1,5 @@
-//! Loans of the sets that a shared book has: none is lost, and those who wait for one are told once it is back.
+//! Loans of the sets that a shared book has, and the calls that lend one, wait for it or bring it back: none is lost, and those who
+//! wait are told once it is back.
 ghost use Rattle.std.specs.Prelude.{◌≡◌, IfErr, IfOk, None, Some, MatchResult};
 ghost use Rattle.std.specs.Option.{option_map};
 ghost use Rattle.scm_book.specs.Machine.{call_data, reply_data};
