@@ -38,8 +38,7 @@ impl Search {
     pub(crate) fn settle(&mut self, claim: Claim, id: u32) -> Option<()> {
         self.read_facts.settle(claim.to, id)?;
         self.choices.see(claim)?;
-        let steps = self.candidates.close(claim.to)?;
-        self.burn_for(steps)?;
+        self.candidates.close(claim.to)?;
         self.waiting.settled(claim.to)
     }
 

@@ -1,7 +1,6 @@
 //! What is left for reads to see.
-use crate::open_reads::OpenReads;
+use crate::placed_lists::PlacedLists;
 use crate::touching::Side;
-use crate::users::Users;
 use scm_clocks::Given;
 use std::alloc::Global;
 
@@ -48,6 +47,9 @@ impl Bounds {
     }
 }
 
+/// Of so much that is left, one is to be chosen.
+const SEVERAL: u32 = 2;
+
 /// A change of bounds: what they were before.
 #[derive(Clone, Copy)]
 struct BoundsChange {
@@ -56,16 +58,18 @@ struct BoundsChange {
 }
 
 /// For each operation and each process the bounds of what is left for it to see, but for what single steps rule out between
-/// others that are left; and last whether first contents are left. Of a read whose source is known nothing is.
+/// others that are left; and last whether first contents are left. Of a read whose source is known nothing is. With it how much
+/// is left for each to see, for which several are left, and for each write of which bounds it is the first one, or the last.
 #[derive(Drop)]
 pub(crate) struct Candidates {
     procs: u32,
     bounds: Vec<Bounds>,
     changes: Vec<BoundsChange>,
     is_recorded: bool,
-    open_reads: OpenReads,
-    firsts: Users,
-    lasts: Users,
+    lefts: Vec<u32>,
+    open: PlacedLists,
+    firsts: PlacedLists,
+    lasts: PlacedLists,
 }
 
 impl Candidates {
@@ -78,9 +82,10 @@ impl Candidates {
             bounds: vec![in alloc; Bounds::NOTHING; count as usize].ok()?,
             changes: Vec::new(alloc),
             is_recorded: false,
-            open_reads: OpenReads::none(alloc, ops)?,
-            firsts: Users::new(alloc, ops)?,
-            lasts: Users::new(alloc, ops)?,
+            lefts: vec![in alloc; 0; ops as usize].ok()?,
+            open: PlacedLists::new(alloc, 1, ops)?,
+            firsts: PlacedLists::new(alloc, ops, count)?,
+            lasts: PlacedLists::new(alloc, ops, count)?,
         };
         for x in 0..ops {
             if let Some(value) = given.values.found(x) {
@@ -105,24 +110,7 @@ impl Candidates {
             self.set(read, process, bounds)?;
             low = count;
         }
-        self.set(read, self.procs, Bounds::FIRST)?;
-        Some(())
-    }
-
-    fn use_ends(&mut self, read: u32, bounds: Bounds) -> Option<()> {
-        let Some((first, last)) = bounds.ends else {
-            return Some(());
-        };
-        self.firsts.add(first, read)?;
-        self.lasts.add(last, read)
-    }
-
-    fn leave_ends(&mut self, read: u32, bounds: Bounds) -> Option<usize> {
-        let Some((first, last)) = bounds.ends else {
-            return Some(0);
-        };
-        let steps = self.firsts.remove(first, read)?;
-        steps.checked_add(self.lasts.remove(last, read)?)
+        self.set(read, self.procs, Bounds::FIRST)
     }
 
     /// From now on changes can be taken back.
@@ -144,23 +132,28 @@ impl Candidates {
         self.bounds.get(at as usize).copied()
     }
 
-    /// The reads that a change of what comes before a write concerns, or after it: those for which it is the first one that is
-    /// left of its process, or the last one.
-    pub(crate) fn users(&self, write: u32, side: Side) -> Option<&[u32]> {
+    /// The bounds that a change of what comes before a write concerns, or after it: those of which it is the first one, or the
+    /// last one.
+    pub(crate) fn ending_with(&self, write: u32, side: Side) -> Option<&[u32]> {
         match side {
-            Side::Before => self.firsts.of(write),
-            Side::After => self.lasts.of(write),
+            Side::Before => self.firsts.get(write),
+            Side::After => self.lasts.get(write),
         }
+    }
+
+    /// Of which read these bounds are.
+    pub(crate) fn read_of(&self, at: u32) -> Option<u32> {
+        at.checked_div(self.width()?)
     }
 
     /// How much is left for a read.
     pub(crate) fn left(&self, read: u32) -> Option<u32> {
-        self.open_reads.left(read)
+        self.lefts.get(read as usize).copied()
     }
 
     /// The reads for which several are left.
-    pub(crate) fn open_reads(&self) -> &[u32] {
-        self.open_reads.as_slice()
+    pub(crate) fn open_reads(&self) -> Option<&[u32]> {
+        self.open.get(0)
     }
 
     /// Whether first contents are left for a read.
@@ -177,12 +170,11 @@ impl Candidates {
 
     /// First contents aren't left for a read any more.
     pub(crate) fn rule_out_first(&mut self, read: u32) -> Option<()> {
-        self.set(read, self.procs, Bounds::NOTHING)?;
-        Some(())
+        self.set(read, self.procs, Bounds::NOTHING)
     }
 
-    /// Puts new bounds in the place of a read's old ones. How many reads were looked at for that.
-    pub(crate) fn set(&mut self, read: u32, process: u32, bounds: Bounds) -> Option<usize> {
+    /// Puts new bounds in the place of a read's old ones.
+    pub(crate) fn set(&mut self, read: u32, process: u32, bounds: Bounds) -> Option<()> {
         let at = self.place(read, process)?;
         if self.is_recorded {
             let bounds = self.get(read, process)?;
@@ -191,29 +183,43 @@ impl Candidates {
         self.exchange(at, bounds)
     }
 
-    fn exchange(&mut self, at: u32, bounds: Bounds) -> Option<usize> {
+    fn exchange(&mut self, at: u32, bounds: Bounds) -> Option<()> {
         let place = self.bounds.get_mut(at as usize)?;
         let old = *place;
         *place = bounds;
-        let read = at.checked_div(self.width()?)?;
+        let read = self.read_of(at)?;
         let left = self.left(read)?.checked_sub(old.len())?;
-        self.open_reads
-            .set_left(read, left.checked_add(bounds.len())?)?;
-        let steps = self.leave_ends(read, old)?;
-        self.use_ends(read, bounds)?;
-        Some(steps)
+        self.set_left(read, left.checked_add(bounds.len())?)?;
+        if let Some((first, last)) = old.ends {
+            self.firsts.remove(first, at)?;
+            self.lasts.remove(last, at)?;
+        }
+        if let Some((first, last)) = bounds.ends {
+            self.firsts.add(first, at)?;
+            self.lasts.add(last, at)?;
+        }
+        Some(())
     }
 
-    /// The source of the read is known: nothing is left. How many reads were looked at for that.
-    pub(crate) fn close(&mut self, read: u32) -> Option<usize> {
-        let mut steps: usize = 0;
+    fn set_left(&mut self, read: u32, left: u32) -> Option<()> {
+        let place = self.lefts.get_mut(read as usize)?;
+        let (was_open, is_open) = (*place >= SEVERAL, left >= SEVERAL);
+        *place = left;
+        match (was_open, is_open) {
+            (false, true) => self.open.add(0, read),
+            (true, false) => self.open.remove(0, read),
+            _ => Some(()),
+        }
+    }
+
+    /// The source of the read is known: nothing is left.
+    pub(crate) fn close(&mut self, read: u32) -> Option<()> {
         for process in 0..self.width()? {
             if self.get(read, process)?.len() > 0 {
-                let more = self.set(read, process, Bounds::NOTHING)?;
-                steps = steps.saturating_add(more);
+                self.set(read, process, Bounds::NOTHING)?;
             }
         }
-        Some(steps)
+        Some(())
     }
 
     /// How many changes were made.
@@ -221,14 +227,12 @@ impl Candidates {
         self.changes.len()
     }
 
-    /// Takes back all changes but the first so many. How many reads were looked at for that.
-    pub(crate) fn take_back(&mut self, kept: usize) -> Option<usize> {
-        let mut steps: usize = 0;
+    /// Takes back all changes but the first so many.
+    pub(crate) fn take_back(&mut self, kept: usize) -> Option<()> {
         for _ in kept..self.changes.len() {
             let change = self.changes.pop()?;
-            let more = self.exchange(change.at, change.bounds)?;
-            steps = steps.saturating_add(more);
+            self.exchange(change.at, change.bounds)?;
         }
-        Some(steps)
+        Some(())
     }
 }

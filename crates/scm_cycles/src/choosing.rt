@@ -27,7 +27,7 @@ fn better(best: Option<WeightedClaim>, claim: Claim, weight: u64) -> Option<Weig
 impl Search {
     /// The case that is tried next, if there is one.
     pub(crate) fn choose(&mut self) -> Option<Option<Claim>> {
-        let open = u32::try_from(self.candidates.open_reads().len()).ok()?;
+        let open = u32::try_from(self.candidates.open_reads()?.len()).ok()?;
         self.burn(open / READS_OF_STEP)?;
         if let Some(read) = self.open_read(self.restarts.count)? {
             return Some(Some(self.choose_source(read)?));
@@ -42,7 +42,7 @@ impl Search {
     // The read by activity over how much is left, the latter by another power after each restart.
     fn open_read(&self, restarts: u64) -> Option<Option<u32>> {
         let mut best: Option<(u32, u64)> = None;
-        for read in self.candidates.open_reads() {
+        for read in self.candidates.open_reads()? {
             let weight = self.weight(*read, restarts)?;
             if best.is_none_or(|(first, most)| weight > most || weight == most && *read < first) {
                 best = Some((*read, weight));

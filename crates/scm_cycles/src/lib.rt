@@ -19,7 +19,7 @@ mod finding;
 mod gathering;
 mod lines;
 mod narrowing;
-mod open_reads;
+mod placed_lists;
 mod read_facts;
 mod read_views;
 mod rises;
@@ -30,7 +30,6 @@ mod sources;
 mod touching;
 mod trail;
 mod truth;
-mod users;
 mod waiting;
 mod watching;
 

@@ -44,8 +44,7 @@ impl Search {
         }
         let new = self.narrowed(old, read, value, process, hidden)?;
         if new != old {
-            let steps = self.candidates.set(read, process, new)?;
-            self.burn_for(steps)?;
+            self.candidates.set(read, process, new)?;
         }
         Some(())
     }

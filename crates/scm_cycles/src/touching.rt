@@ -42,10 +42,10 @@ impl Search {
 
     // Reads that the write is the first one that is left for, of its process, or the last one.
     fn touch_open(&mut self, write: u32, side: Side) -> Option<()> {
-        let users = self.candidates.users(write, side)?;
-        let count = users.len();
-        for read in users {
-            self.waiting.touch(*read, false)?;
+        let ending = self.candidates.ending_with(write, side)?;
+        let count = ending.len();
+        for at in ending {
+            self.waiting.touch(self.candidates.read_of(*at)?, false)?;
         }
         self.burn_for(count)
     }

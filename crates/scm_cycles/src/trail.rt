@@ -65,8 +65,7 @@ impl Search {
         self.clocks.take_back(sizes.changes)?;
         self.afters.take_back(sizes.afters)?;
         self.rises.take_back(sizes.rises)?;
-        let steps = self.candidates.take_back(sizes.candidates)?;
-        self.burn_for(steps)?;
+        self.candidates.take_back(sizes.candidates)?;
         for _ in sizes.steps..self.steps.len()? {
             let step = self.steps.take_back()?;
             let read = step.claim.to;
