@@ -7,7 +7,7 @@ const SEARCH_FUEL_OF_FOUR: u64 = 6;
 
 const LEAST_SEARCH_FUEL: u64 = 6;
 
-const MOST_SEARCH_FUEL: u64 = 36;
+const MOST_SEARCH_FUEL: u64 = 30;
 
 /// How many times as much windows may burn where no word has room for a situation: one in full takes longer to look at.
 const WINDOW_FUEL_IN_FULL: u64 = 3;

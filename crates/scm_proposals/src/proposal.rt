@@ -10,8 +10,8 @@ use scm_cycles::{Guess, SKEWS, find_sources};
 use scm_sequences::{Lengths, Sequences};
 use std::alloc::Global;
 
-/// For how many situations of the limit a walk makes one visit more where it makes no more operations than before, and how many
-/// it makes there at least. One costs about as much as a situation that is searched.
+/// How many visits a walk makes at least where it makes no more operations than before, and for how many situations of the limit
+/// it makes one more if all sources are known: one costs about as much as a situation that is searched.
 const SITUATIONS_OF_PATIENCE: usize = 8;
 
 const LEAST_PATIENCE: u64 = 10_000;
@@ -163,8 +163,9 @@ impl Proposer<'_> {
         clocks: Clocks,
     ) -> Option<GuidedWalk> {
         let facts = Facts::new(self.alloc, given, sources)?;
+        let patience = self.patience(&facts);
         let order = Order::new(self.alloc, facts, clocks)?;
-        GuidedWalk::new(self.alloc, order, self.patience())
+        GuidedWalk::new(self.alloc, order, patience)
     }
 
     /// A schedule of a part in which each read has the source that was guessed, and that keeps the guessed orders.
@@ -193,9 +194,14 @@ impl Proposer<'_> {
         Some(schedule)
     }
 
-    /// How many visits a walk makes at most where it makes no more operations than before.
-    fn patience(&self) -> u64 {
-        let patience = (self.limit / SITUATIONS_OF_PATIENCE) as u64;
-        patience.saturating_add(LEAST_PATIENCE)
+    // How many visits a walk makes at most where it makes no more operations than before. Where sources are open a search finds
+    // more with the fuel.
+    fn patience(&self, facts: &Facts) -> u64 {
+        let more = if facts.sources.are_known {
+            self.limit / SITUATIONS_OF_PATIENCE
+        } else {
+            0
+        };
+        LEAST_PATIENCE.saturating_add(more as u64)
     }
 }
