@@ -21,4 +21,4 @@ mod windows;
 
 pub use beginning::Beginning;
 pub use ending::is_near_end;
-pub use proposal::propose;
+pub use proposal::{propose, propose_by_search, propose_by_walks};

@@ -57,6 +57,23 @@ pub fn propose(
     limit: usize,
     room: usize,
 ) -> Option<Vec<u8>> {
+    match propose_by_walks(alloc, initials, sequences, lengths, earlier, limit, room) {
+        Ok(schedule) => Some(schedule),
+        Err(fuel) => propose_by_search(alloc, initials, sequences, lengths, limit, fuel),
+    }
+}
+
+/// The same, by walks alone. Where they find none, what they leave of the fuel for `propose_by_search`: nothing where no
+/// schedule exists as far as was seen, and where memory is refused.
+pub fn propose_by_walks(
+    alloc: Global,
+    initials: &[Option<u64>],
+    sequences: &Sequences,
+    lengths: &Lengths,
+    earlier: &[u8],
+    limit: usize,
+    room: usize,
+) -> Result<Vec<u8>, u64> {
     let proposer = Proposer {
         alloc,
         initials,
@@ -66,23 +83,32 @@ pub fn propose(
         earlier,
         limit,
     };
-    let longest = proposer.beginning(earlier.len())?;
-    let mut fuel = fuel_of_search(lengths, room);
-    let mut tail = 0;
-    for _ in 0..usize::BITS {
-        let kept = longest.len_without(tail);
-        if kept == 0 {
-            return proposer.complete_from_nothing(&mut fuel);
-        }
-        if let Some(schedule) = proposer.go_on(kept, &mut fuel) {
-            return Some(schedule);
-        }
-        tail = tail
-            .saturating_mul(GROWTH)
-            .max(longest.left(lengths))
-            .max(SHORTEST_TAIL);
+    proposer.complete_earlier(fuel_of_search(lengths, room))
+}
+
+/// The same after walks, in long turns, or else window by window, or else by a walk in which each read has the source that a
+/// search chose, with this fuel.
+pub fn propose_by_search(
+    alloc: Global,
+    initials: &[Option<u64>],
+    sequences: &Sequences,
+    lengths: &Lengths,
+    limit: usize,
+    mut fuel: u64,
+) -> Option<Vec<u8>> {
+    let proposer = Proposer {
+        alloc,
+        initials,
+        sequences,
+        lengths,
+        counts: lengths.counts(),
+        earlier: &[],
+        limit,
+    };
+    if fuel == 0 {
+        return None;
     }
-    None
+    proposer.complete_by_search(&mut fuel)
 }
 
 impl Proposer<'_> {
@@ -122,17 +148,41 @@ impl Proposer<'_> {
         self.complete(kept, &mut walk, fuel)
     }
 
-    /// A schedule that is made from nothing: by a walk, or else in long turns, or else window by window, or else by a walk in
-    /// which each read has the source that a search chose.
-    fn complete_from_nothing(&self, fuel: &mut u64) -> Option<Vec<u8>> {
-        let mut walk = self.walk(0)?;
-        if let Some(schedule) = self.complete(0, &mut walk, fuel) {
-            return Some(schedule);
+    /// A schedule that goes on from the earlier one as far as that is legal, or else from less and less of it, at last from
+    /// nothing; or what is left of the fuel.
+    fn complete_earlier(&self, mut fuel: u64) -> Result<Vec<u8>, u64> {
+        let longest = self.beginning(self.earlier.len()).ok_or(0u64)?;
+        let mut tail = 0;
+        for _ in 0..usize::BITS {
+            let kept = longest.len_without(tail);
+            if kept == 0 {
+                break;
+            }
+            if let Some(schedule) = self.go_on(kept, &mut fuel) {
+                return Ok(schedule);
+            }
+            tail = tail
+                .saturating_mul(GROWTH)
+                .max(longest.left(self.lengths))
+                .max(SHORTEST_TAIL);
         }
-        if !walk.has_begun() {
-            return None;
+        self.complete_from_nothing(fuel)
+    }
+
+    /// A schedule that is made from nothing by a walk; or what is left of the fuel: nothing where no schedule exists as far as was
+    /// seen.
+    fn complete_from_nothing(&self, mut fuel: u64) -> Result<Vec<u8>, u64> {
+        let mut walk = self.walk(0).ok_or(0u64)?;
+        match self.complete(0, &mut walk, &mut fuel) {
+            Some(schedule) => Ok(schedule),
+            None if walk.has_begun() => Err(fuel),
+            None => Err(0),
         }
-        drop(walk);
+    }
+
+    /// A schedule that is made from nothing, in long turns, or else window by window, or else by a walk in which each read has
+    /// the source that a search chose.
+    fn complete_by_search(&self, fuel: &mut u64) -> Option<Vec<u8>> {
         if let Some(schedule) = self.complete_by_turns(fuel) {
             return Some(schedule);
         }
