@@ -1,14 +1,15 @@
 //! Schedules that are proposed and judged.
-ghost use Rattle.std.specs.Prelude.{reverse, IfSome, IsTrue};
+ghost use Rattle.std.specs.Prelude.{reverse, IfOk, IfSome, IsTrue};
 ghost use Rattle.scm_sequences.specs.declared.limits.TheConstants.{MOST_CELLS};
 ghost use Rattle.scm_sequences.specs.Sequences.{IsWithin, lengths_of};
 ghost use Rattle.scm_sequences.specs.Traces.{trace_of, cut_to, IsSchedule};
 ghost use Rattle.scm_book.specs.inner.Loans.{CanJudge};
 
 use crate::known_schedules::KnownSchedules;
+use crate::loan::PARTS_IN_WORDS;
 use crate::open_trace::Purpose;
 use scm_frontier::Situation;
-use scm_proposals::{is_near_end, propose};
+use scm_proposals::{is_near_end, propose, propose_by_search, propose_by_walks};
 use scm_reach::Reach;
 use scm_schedules::is_legal;
 use scm_sequences::{Lengths, MOST_CELLS, MOST_PROCESSES, Sequences};
@@ -68,7 +69,7 @@ impl Proposing<'_> {
     }
 
     /// Whether the set has the answer.
-    fn is_settled(&self, reach: &Reach) -> bool
+    pub(crate) fn is_settled(&self, reach: &Reach) -> bool
         requires { IsWithin self.now.lengths.now (lengths_of self.now.sequences.now) }
     {
         reach.holds_whole(self.sequences, self.lengths) || !reach.is_open(self.sequences)
@@ -97,12 +98,13 @@ impl Proposing<'_> {
         )
     }
 
-    /// The room of the search that a proposal may spare: what the limit leaves beside this set, or all of it, for work, and
-    /// where the set is full, if that wasn't tried of late.
+    /// The room of the search that a proposal may spare: what the limit leaves beside this set, or all of it, for work, where the
+    /// set has no more than a short search finds, and where it is full, if that wasn't tried of late.
     fn room(&self, reach: &Reach) -> usize {
         let room = self.limit.saturating_sub(reach.held());
         let is_due = room == 0 && self.schedules.may_spend_budget(self.lengths);
-        if is_due || matches!(self.purpose, Purpose::Work) {
+        let is_small = reach.held() <= self.limit / PARTS_IN_WORDS;
+        if is_due || is_small || matches!(self.purpose, Purpose::Work) {
             self.limit
         } else {
             room
@@ -117,7 +119,7 @@ impl Proposing<'_> {
         is_legal(reach.initials(), self.sequences, self.lengths, proposal)
     }
 
-    /// This proposal, where it is legal.
+    /// This schedule, if there is one, where it is legal.
     fn judged<'s>(&self, reach: &Reach, proposal: Option<&'s [u8]>) -> Option<&'s [u8]>
         requires { CanJudge self.now.sequences.now self.now.lengths.now reach.now.initials }
         ensures { IfSome result (λ schedule. IsSchedule (cut_to (trace_of reach.now.initials self.now.sequences.now) self.now.lengths.now) (reverse schedule.now)) }
@@ -161,20 +163,46 @@ impl Proposing<'_> {
         self.proposed(reach)
     }
 
-    /// A legal schedule of what is lent, to which none is known and whose set hasn't the answer. `None` where none was legal
-    /// before and nothing changed, for work where a search is likely to be short, where no proposal is legal, and where memory is
-    /// refused.
-    pub(crate) fn legal_beside(&self, reach: &Reach) -> Option<Vec<u8>>
+    /// A legal schedule of what is lent, to which none is known and whose set hasn't the answer, by walks alone; or the fuel that
+    /// they leave: nothing where none was legal before and nothing changed, for work where a search is likely to be short, where no
+    /// schedule exists as far as was seen, and where memory is refused.
+    pub(crate) fn legal_by_walks(&self, reach: &Reach) -> Result<Vec<u8>, u64>
+        requires { CanJudge self.now.sequences.now self.now.lengths.now reach.now.initials }
+        ensures { IfOk result (λ schedule. IsSchedule (cut_to (trace_of reach.now.initials self.now.sequences.now) self.now.lengths.now) (reverse schedule.items)) }
+    {
+        if self.schedules.has_failed(self.lengths) {
+            return Err(0);
+        }
+        let is_for_work = matches!(self.purpose, Purpose::Work);
+        if is_for_work && self.is_search_short(reach) != Some(false) {
+            return Err(0);
+        }
+        let proposal = propose_by_walks(
+            self.alloc,
+            reach.initials(),
+            self.sequences,
+            self.lengths,
+            self.schedules.longest(),
+            self.limit,
+            self.room(reach),
+        )?;
+        self.fitting(reach, proposal).ok_or(0u64)
+    }
+
+    /// The same after walks, with the fuel that they left.
+    pub(crate) fn legal_by_search(&self, reach: &Reach, fuel: u64) -> Option<Vec<u8>>
         requires { CanJudge self.now.sequences.now self.now.lengths.now reach.now.initials }
         ensures { IfSome result (λ schedule. IsSchedule (cut_to (trace_of reach.now.initials self.now.sequences.now) self.now.lengths.now) (reverse schedule.items)) }
     {
-        if self.schedules.has_failed(self.lengths) {
-            return None;
-        }
-        if matches!(self.purpose, Purpose::Work) && self.is_search_short(reach)? {
-            return None;
-        }
-        self.proposed(reach)
+        let proposal = propose_by_search(
+            self.alloc,
+            reach.initials(),
+            self.sequences,
+            self.lengths,
+            self.limit,
+            fuel,
+        )?;
+        self.fitting(reach, proposal)
     }
 
     /// What the heuristic proposes, where it is legal.
@@ -182,9 +210,17 @@ impl Proposing<'_> {
         requires { CanJudge self.now.sequences.now self.now.lengths.now reach.now.initials }
         ensures { IfSome result (λ schedule. IsSchedule (cut_to (trace_of reach.now.initials self.now.sequences.now) self.now.lengths.now) (reverse schedule.items)) }
     {
-        let schedule = self.proposal(reach)?;
-        if self.fits(reach, &schedule) {
-            Some(schedule)
+        let proposal = self.proposal(reach)?;
+        self.fitting(reach, proposal)
+    }
+
+    /// This proposal, where it is legal.
+    fn fitting(&self, reach: &Reach, proposal: Vec<u8>) -> Option<Vec<u8>>
+        requires { CanJudge self.now.sequences.now self.now.lengths.now reach.now.initials }
+        ensures { IfSome result (λ schedule. IsSchedule (cut_to (trace_of reach.now.initials self.now.sequences.now) self.now.lengths.now) (reverse schedule.items)) }
+    {
+        if self.fits(reach, &proposal) {
+            Some(proposal)
         } else {
             None
         }

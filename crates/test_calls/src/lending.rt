@@ -47,10 +47,15 @@ pub(crate) fn forbidden_in(rt: &impl Abort, alloc: Global, open: &str) -> Book {
     book
 }
 
-fn searched(rt: &impl Abort, alloc: Global, book: &mut Book) -> Loan {
-    let Plan::Long(mut loan) = book.plan(&call_of(rt, alloc, "ask t")) else {
+fn asked(rt: &impl Abort, alloc: Global, book: &mut Book, line: &str) -> Loan {
+    let Plan::Long(loan) = book.plan(&call_of(rt, alloc, line)) else {
         panic!(rt; "a question");
     };
+    loan
+}
+
+fn searched(rt: &impl Abort, alloc: Global, book: &mut Book) -> Loan {
+    let mut loan = asked(rt, alloc, book, "ask t");
     loan.search();
     loan
 }
@@ -110,6 +115,48 @@ fn what_was_found_spares_the_question(rt: HostRuntime) {
     assert_held(&rt, &book, 1);
     book.take_back(loan);
     assert_held(&rt, &book, SITUATIONS);
+    assert_spared(&rt, &mut book);
+    drop(book);
+}
+
+/// Whether a short search of the question finds all, and then the set holds so many situations.
+fn search_shortly(
+    rt: &impl Abort,
+    alloc: Global,
+    book: &mut Book,
+    line: &str,
+    finds_all: bool,
+    count: usize,
+) {
+    let mut loan = asked(rt, alloc, book, line);
+    assert!(rt; loan.search_shortly() == finds_all);
+    book.take_back(loan);
+    assert_held(rt, book, count);
+}
+
+/// A short search looks for a sixteenth of the budget, once, and not at a mark.
+#[test]
+fn a_short_search_finds_a_part(rt: HostRuntime) {
+    let mut book = played(&rt, rt.alloc(), OPEN);
+    report_stores(&rt, rt.alloc(), &mut book, 1);
+    play(
+        &rt,
+        rt.alloc(),
+        &mut book,
+        "do t 3 lw x 10; mark t => ok 0; do t 3 lw x 9",
+    );
+    search_shortly(&rt, rt.alloc(), &mut book, "ask t 0", false, 1);
+    for _ in 0..2 {
+        search_shortly(&rt, rt.alloc(), &mut book, "ask t", false, 5_000 / 16);
+    }
+    drop(book);
+}
+
+#[test]
+fn a_short_search_spares_the_question(rt: HostRuntime) {
+    let mut book = forbidden(&rt, rt.alloc());
+    play(&rt, rt.alloc(), &mut book, "raise t 50000");
+    search_shortly(&rt, rt.alloc(), &mut book, "ask t", true, SITUATIONS);
     assert_spared(&rt, &mut book);
     drop(book);
 }

@@ -52,6 +52,7 @@ impl OpenTrace {
             reach: mem::replace(&mut self.reach, start),
             schedules,
             purpose,
+            fuel: None,
             is_unfinished: true,
         })
     }
@@ -141,6 +142,7 @@ impl OpenTrace {
             mut reach,
             mut schedules,
             purpose: _,
+            fuel: _,
             is_unfinished,
         } = loan;
         self.loan_state.take_back(is_unfinished);
