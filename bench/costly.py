@@ -1,7 +1,7 @@
 """Traces whose proposal costs much beside their search: bench/costly.py PROGRAM WITHOUT [ROWS]. WITHOUT is as bench/failing.py has it.
 
-For each kind what both programs say, the user time of the questions, and how many times longer PROGRAM took. Of a trace that is asked
-again, the first question isn't counted, and each of the others follows a store."""
+For each kind what both programs say, the user time of the questions, how many times longer PROGRAM took, and its time by default, with
+workers. Of a trace that is asked again, the first question isn't counted, and each of the others follows a store."""
 
 import random
 import sys
@@ -37,19 +37,6 @@ def excluded(rounds, stores=1_000):
     return list(traces.script(memory, 4))
 
 
-def overwritten(pairs, seekers=60):
-    """Thousands of writes of a value, each overwritten by a read-and-write of its own, are candidates of others."""
-    rng, memory = random.Random(1), traces.Memory(4, 5)
-    steps = [traces.accesses(rng, memory, process, 4, 0.4, 3) for process in range(4)]
-    traces.run(rng, memory, 4, 200, 10, steps)
-    failing.changed(rng, memory, 5)
-    for number in range(seekers):
-        memory.reports[0].insert(2 * number + 1, f"rw c4 1 {10_000_000 + number}")
-    taken = [report for number in range(pairs) for report in ("sw c4 1", f"rw c4 1 {10 + number}")]
-    memory.reports.append(["sw c4 1"] * 2 + taken + ["sw c4 1"] * 6)
-    return list(traces.script(memory, 5))
-
-
 def changed_late(procs, length, cells, values):
     """One of the last 60 loads of each process reads something else."""
     rng = random.Random(1)
@@ -64,34 +51,34 @@ KINDS = {
     "32 x 100, one cell, 5 values": lambda: few_values(32, 100, 1, 5),
     "2 x 50000, one cell, 6 values": lambda: few_values(2, 50_000, 1, 6),
     "8 x 300, 2 cells, 6 values, 9 of 10 swap": lambda: few_values(8, 300, 2, 6, amos=0.9),
-    "16 x 200, 64 cells, 2 values": lambda: few_values(16, 200, 64, 2),
     "32 x 300, 2 cells, 6 values": lambda: few_values(32, 300, 2, 6),
     "32 x 1000, 8 cells, 3 values": lambda: few_values(32, 1_000, 8, 3),
     "32 x 2000, 8 cells, 50 values": lambda: few_values(32, 2_000, 8, 50),
     "32 x 3000, 64 cells, 200 values": lambda: few_values(32, 3_000, 64, 200),
+    "2 x 1500, 8 cells, 3 values, changed late": lambda: changed_late(2, 1_500, 8, 3),
     "3 x 100000, 8 cells, 8 values, changed late": lambda: changed_late(3, 100_000, 8, 8),
-    "2 x 60000, 8 cells, 8 values, changed late": lambda: changed_late(2, 60_000, 8, 8),
     "16 x 2000, 16 cells, 48 values, changed late": lambda: changed_late(16, 2_000, 16, 48),
     "3,000 sources excluded": lambda: excluded(3_000),
-    "10,000 sources overwritten": lambda: overwritten(10_000),
 }
 
 
-def question(program, lines):
+def question(program, lines, words=schedules.ALONE):
     """What the last question says, and the user time of the questions, less that of what stands before them."""
     first = lines.index("a ask t")
     begun = first if first == len(lines) - 1 else first + 1
-    _, before = schedules.run(program, lines[:begun])
-    replies, taken = schedules.run(program, lines)
+    _, before = schedules.run(program, lines[:begun], words)
+    replies, taken = schedules.run(program, lines, words)
     return replies[-1].split()[1].decode() if replies else "given up", max(LEAST, taken - before)
 
 
 def main(program, without, only=""):
-    print(f"{'traces':<46} {'with':<13} {'without':<13} {'s':>7} {'s':>7} {'times':>7}")
+    print(f"{'traces':<46} {'with':<13} {'without':<13} {'s':>7} {'s':>7} {'times':>7} {'default':>7}")
     for name in (name for name in KINDS if only in name):
         lines = KINDS[name]()
         (said, taken), (said_without, taken_without) = question(program, lines), question(without, lines)
-        print(f"{name:<46} {said:<13} {said_without:<13} {taken:>7.3f} {taken_without:>7.3f} {taken / taken_without:>7.2f}", flush=True)
+        _, default = question(program, lines, ())
+        times = taken / taken_without
+        print(f"{name:<46} {said:<13} {said_without:<13} {taken:>7.3f} {taken_without:>7.3f} {times:>7.2f} {default:>7.3f}", flush=True)
 
 
 if __name__ == "__main__":

@@ -15,12 +15,12 @@ SECONDS = 120
 ALONE = ("--workers", "0")
 
 
-def run(program, lines):
+def run(program, lines, words=ALONE):
     """The replies, and the user time of the run: other work on the machine counts little in it."""
     script = "".join(line + "\n" for line in lines).encode()
     begin = resource.getrusage(resource.RUSAGE_CHILDREN).ru_utime
     try:
-        replies = subprocess.run([program, *ALONE], input=script, stdout=subprocess.PIPE, timeout=SECONDS).stdout.splitlines()
+        replies = subprocess.run([program, *words], input=script, stdout=subprocess.PIPE, timeout=SECONDS).stdout.splitlines()
     except subprocess.TimeoutExpired:
         replies = None
     return replies, resource.getrusage(resource.RUSAGE_CHILDREN).ru_utime - begin
