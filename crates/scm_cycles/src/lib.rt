@@ -25,8 +25,8 @@ mod read_views;
 mod rises;
 mod rules;
 mod search;
-mod skew;
 mod sources;
+mod supposing;
 mod touching;
 mod trail;
 mod truth;
@@ -34,4 +34,4 @@ mod waiting;
 mod watching;
 
 pub use finding::find_cycle;
-pub use sources::{Guess, SKEWS, find_sources};
+pub use sources::{Guess, find_sources};

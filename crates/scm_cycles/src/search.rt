@@ -53,8 +53,8 @@ pub(crate) struct Search {
     pub(crate) choices: Choices,
     pub(crate) clauses: Clauses,
     pub(crate) restarts: Restarts,
-    /// The step by which processes don't get far ahead of each other, where that is supposed.
-    pub(crate) skew: Option<u32>,
+    /// The step by which orders are supposed, where some are.
+    pub(crate) supposed: Option<u32>,
     pub(crate) clocks: Clocks,
     /// For each operation, from which place on the operations of each process come after it.
     pub(crate) afters: Clocks,
@@ -89,7 +89,7 @@ impl Search {
             choices: Choices::new(alloc, ops)?,
             clauses: Clauses::new(alloc, ops)?,
             restarts: Restarts::FIRST,
-            skew: None,
+            supposed: None,
             clocks: Clocks::new(alloc, &given.numbering)?,
             afters: afters_of(alloc, &given.numbering)?,
             candidates: Candidates::new(alloc, &given)?,
@@ -149,8 +149,8 @@ impl Search {
             let spot = self.given.numbering.spot(x)?;
             let id = self.rises.first(spot, process, at.checked_add(1)?)?;
             path.push(id).ok()?;
-            x = match self.skew {
-                Some(skew) if skew == id => from,
+            x = match self.supposed {
+                Some(supposed) if supposed == id => from,
                 _ => self.steps.get(id)?.claim.from,
             };
         }

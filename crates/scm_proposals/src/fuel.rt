@@ -9,8 +9,8 @@ const LEAST_SEARCH_FUEL: u64 = 6;
 
 const MOST_SEARCH_FUEL: u64 = 30;
 
-/// How many times as much windows may burn where no word has room for a situation: one in full takes longer to look at.
-const WINDOW_FUEL_IN_FULL: u64 = 3;
+/// How many times as much there is where no word has room for a situation: one in full takes longer to look at.
+const FUEL_IN_FULL: u64 = 3;
 
 const LONGEST_WORD: usize = u128::BITS as usize;
 
@@ -33,15 +33,16 @@ pub(crate) fn fuel_of_search(lengths: &Lengths, room: usize) -> u64 {
     (room as u64).saturating_mul(fuel)
 }
 
-/// What windows may burn of a trace of so many cells, for each of which a situation has a bit at least.
-pub(crate) fn fuel_of_windows(lengths: &Lengths, cells: usize, fuel: u64) -> u64 {
+/// What all that comes after walks may burn of a trace of so many cells, for each of which a situation has a bit at least, where one
+/// search over sources may burn so much.
+pub(crate) fn fuel_after_walks(lengths: &Lengths, cells: usize, fuel: u64) -> u64 {
     let mut bits = cells;
     for process in 0..lengths.procs() {
         let unused = lengths.get(process).leading_zeros();
         bits = bits.saturating_add(u32::BITS.saturating_sub(unused) as usize);
     }
     if bits > LONGEST_WORD {
-        fuel.saturating_mul(WINDOW_FUEL_IN_FULL)
+        fuel.saturating_mul(FUEL_IN_FULL)
     } else {
         fuel
     }

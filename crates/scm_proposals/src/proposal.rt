@@ -1,12 +1,14 @@
 //! A proposal for a schedule.
 use crate::beginning::Beginning;
 use crate::facts::Facts;
-use crate::fuel::{fuel_of_search, fuel_of_windows};
+use crate::fuel::{fuel_after_walks, fuel_of_search};
+use crate::guessing::{SkewedGuess, price_of};
 use crate::guided_walk::GuidedWalk;
 use crate::order::Order;
+use crate::skew::SKEWS;
 use crate::sources::single_sources;
 use scm_clocks::{Clocks, Given, Part};
-use scm_cycles::{Guess, SKEWS, find_sources};
+use scm_cycles::Guess;
 use scm_sequences::{Lengths, Sequences};
 use std::alloc::Global;
 
@@ -16,8 +18,11 @@ const SITUATIONS_OF_PATIENCE: usize = 8;
 
 const LEAST_PATIENCE: u64 = 10_000;
 
-/// How much fuel of the search a visit burns for each process.
-const PRICE_OF_VISIT: u64 = 2;
+/// How many writes are few that wrote what a read found, and which part of the fuel a search gets before turns and windows where
+/// most reads have no more.
+const FEW_WRITERS: usize = 5;
+
+const FIRST_PARTS: u64 = 3;
 
 /// By which part of the first skew those of a whole trace grow.
 const SKEW_DIVISOR: u64 = 5;
@@ -86,15 +91,15 @@ pub fn propose_by_walks(
     proposer.complete_earlier(fuel_of_search(lengths, room))
 }
 
-/// The same after walks, in long turns, or else window by window, or else by a walk in which each read has the source that a
-/// search chose, with this fuel.
+/// The same after walks, with this fuel: in long turns, or else window by window, or else by a walk in which each read has the
+/// source that a search chose. That comes first where few writes wrote what most reads found.
 pub fn propose_by_search(
     alloc: Global,
     initials: &[Option<u64>],
     sequences: &Sequences,
     lengths: &Lengths,
     limit: usize,
-    mut fuel: u64,
+    fuel: u64,
 ) -> Option<Vec<u8>> {
     let proposer = Proposer {
         alloc,
@@ -108,7 +113,7 @@ pub fn propose_by_search(
     if fuel == 0 {
         return None;
     }
-    proposer.complete_by_search(&mut fuel)
+    proposer.complete_by_search(fuel)
 }
 
 impl Proposer<'_> {
@@ -180,21 +185,55 @@ impl Proposer<'_> {
         }
     }
 
-    /// A schedule that is made from nothing, in long turns, or else window by window, or else by a walk in which each read has
-    /// the source that a search chose.
-    fn complete_by_search(&self, fuel: &mut u64) -> Option<Vec<u8>> {
-        if let Some(schedule) = self.complete_by_turns(fuel) {
+    /// A schedule that is made from nothing, by all but a walk alone.
+    fn complete_by_search(&self, fuel: u64) -> Option<Vec<u8>> {
+        let mut left = fuel_after_walks(self.lengths, self.initials.len(), fuel);
+        if self.has_few_writers()? {
+            let most = left / FIRST_PARTS;
+            if let Some(schedule) = self.complete_by_sources(most, &mut left) {
+                return Some(schedule);
+            }
+        }
+        if let Some(schedule) = self.complete_by_turns(&mut left) {
             return Some(schedule);
         }
-        let most = fuel_of_windows(self.lengths, self.initials.len(), *fuel);
-        let mut left = most;
         if let Some(schedule) = self.complete_by_windows(&mut left) {
             return Some(schedule);
         }
+        self.complete_by_sources(fuel, &mut left)
+    }
+
+    // A schedule by a walk in which each read has the source that a search chose, with no more than so much of the fuel.
+    fn complete_by_sources(&self, most: u64, fuel: &mut u64) -> Option<Vec<u8>> {
+        let most = most.min(*fuel);
+        let mut left = most;
+        let schedule = self.complete_by_guess(&mut left);
         *fuel = fuel.saturating_sub(most.saturating_sub(left));
-        let mut guess = find_sources(self.alloc, self.given(0)?, 0..SKEWS + 1, SKEW_DIVISOR, fuel)?;
+        schedule
+    }
+
+    // The guess's orders aren't kept, since they may need its skew.
+    fn complete_by_guess(&self, fuel: &mut u64) -> Option<Vec<u8>> {
+        let nothing = self.beginning(0)?;
+        let part = self.part(&nothing, self.counts, u32::MAX);
+        let SkewedGuess { mut guess, .. } = self.guess(&part, 0..SKEWS + 1, SKEW_DIVISOR, fuel)?;
         guess.clocks = Clocks::new(self.alloc, &guess.given.numbering)?;
         self.complete_by(guess, fuel)
+    }
+
+    // Whether half of the reads at least found what few writes wrote.
+    fn has_few_writers(&self) -> Option<bool> {
+        let given = self.given(0)?;
+        let (mut reads, mut few) = (0u32, 0u32);
+        for x in 0..given.numbering.len()? {
+            if let Some(value) = given.values.found(x) {
+                reads = reads.saturating_add(1);
+                if given.writers.of(value)?.len() <= FEW_WRITERS {
+                    few = few.saturating_add(1);
+                }
+            }
+        }
+        Some(few >= reads / 2)
     }
 
     /// A walk that goes on from so many places.
@@ -233,8 +272,7 @@ impl Proposer<'_> {
     /// So many places of the earlier schedule, and then the walk, if it comes to its end: that burns fuel of the search.
     fn complete(&self, kept: usize, walk: &mut GuidedWalk, fuel: &mut u64) -> Option<Vec<u8>> {
         let end = walk.make_all();
-        let price = u64::from(walk.order.facts.procs).saturating_mul(PRICE_OF_VISIT);
-        *fuel = fuel.saturating_sub(walk.order.visits.saturating_mul(price));
+        *fuel = fuel.saturating_sub(price_of(walk.order.visits, &walk.order));
         end?;
         let mut schedule = Vec::new(self.alloc);
         for place in self.earlier.get(..kept)? {

@@ -1,9 +1,10 @@
 //! A schedule that is made window by window: of a long trace only the next operations of each process are looked at, and of
 //! their schedule the beginning is kept.
 use crate::beginning::Beginning;
+use crate::guessing::SkewedGuess;
 use crate::proposal::Proposer;
-use scm_clocks::{Given, Part};
-use scm_cycles::{Guess, SKEWS, find_sources};
+use crate::skew::SKEWS;
+use scm_clocks::Part;
 
 /// How many operations of each process a window has: so many for each process, within these bounds.
 const WIDTH_OF_PROCESS: u32 = 14;
@@ -128,10 +129,14 @@ impl Proposer<'_> {
             progress.width.saturating_mul(CHECKED) / SIXTEENTHS
         };
         let part = self.part(&progress.beginning, ends.as_slice(), checked);
-        let Some(guess) = self.guess(&part, progress.skew_number, fuel) else {
+        let Some(SkewedGuess { guess, skew_number }) = self.window_guess(
+            &part,
+            progress.skew_number,
+            fuel,
+        ) else {
             return Some(false);
         };
-        progress.skew_number = guess.skew_number;
+        progress.skew_number = skew_number;
         let Some(places) = self.complete_by(guess, fuel) else {
             return Some(false);
         };
@@ -144,20 +149,12 @@ impl Proposer<'_> {
     }
 
     // What reads see in a window, under the skews from this one on.
-    fn guess(&self, part: &Part, skew_number: u64, fuel: &mut u64) -> Option<Guess> {
+    fn window_guess(&self, part: &Part, skew_number: u64, fuel: &mut u64) -> Option<SkewedGuess> {
         *fuel = fuel.checked_sub(part.size())?;
-        let given = Given::new(self.alloc, part)?;
-        let most = u64::from(given.numbering.len()?)
-            .saturating_mul(WINDOW_FUEL)
-            .min(*fuel);
+        let ops = part.size() / (part.ends.len() as u64).max(1);
+        let most = ops.saturating_mul(WINDOW_FUEL).min(*fuel);
         let mut left = most;
-        let guess = find_sources(
-            self.alloc,
-            given,
-            skew_number..SKEWS,
-            WINDOW_SKEW_DIVISOR,
-            &mut left,
-        );
+        let guess = self.guess(part, skew_number..SKEWS, WINDOW_SKEW_DIVISOR, &mut left);
         *fuel = fuel.saturating_sub(most.saturating_sub(left));
         guess
     }
