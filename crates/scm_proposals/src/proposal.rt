@@ -92,7 +92,7 @@ pub fn propose_by_walks(
 }
 
 /// The same after walks, with this fuel: in long turns, or else window by window, or else by a walk in which each read has the
-/// source that a search chose. That comes first where few writes wrote what most reads found.
+/// source that a search chose. Before windows that comes first where few writes wrote what most reads found.
 pub fn propose_by_search(
     alloc: Global,
     initials: &[Option<u64>],
@@ -188,7 +188,7 @@ impl Proposer<'_> {
     /// A schedule that is made from nothing, by all but a walk alone.
     fn complete_by_search(&self, fuel: u64) -> Option<Vec<u8>> {
         let mut left = fuel_after_walks(self.lengths, self.initials.len(), fuel);
-        if self.has_few_writers()? {
+        if self.has_windows()? && self.has_few_writers()? {
             let most = left / FIRST_PARTS;
             if let Some(schedule) = self.complete_by_sources(most, &mut left) {
                 return Some(schedule);

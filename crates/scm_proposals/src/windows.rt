@@ -84,15 +84,19 @@ impl WindowProgress {
 }
 
 impl Proposer<'_> {
+    /// Whether windows are made: the trace is long and has few processes.
+    pub(crate) fn has_windows(&self) -> Option<bool> {
+        let longest = self.counts.iter().copied().max()?;
+        let least = self.window_width()?.saturating_mul(LEAST_WINDOWS);
+        Some(self.counts.len() <= MOST_PROCESSES_OF_WINDOWS && longest >= least)
+    }
+
     /// A schedule of a long trace of few processes, none of which gets far ahead of the others.
     pub(crate) fn complete_by_windows(&self, fuel: &mut u64) -> Option<Vec<u8>> {
-        let longest = self.counts.iter().copied().max()?;
-        let width = self.window_width()?;
-        if self.counts.len() > MOST_PROCESSES_OF_WINDOWS
-            || longest < LEAST_WINDOWS.saturating_mul(width)
-        {
+        if !self.has_windows()? {
             return None;
         }
+        let width = self.window_width()?;
         let mut progress = WindowProgress {
             beginning: Beginning::new(self.alloc, self.initials, self.counts.len())?,
             schedule: Vec::new(self.alloc),
