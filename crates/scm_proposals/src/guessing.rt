@@ -47,6 +47,9 @@ impl Proposer<'_> {
             } else {
                 *fuel
             };
+            if part.size() > share {
+                return None;
+            }
             let mut left = share;
             let guess = self.guess_under(part, skew_number, divisor, &mut left);
             *fuel = fuel.saturating_sub(share.saturating_sub(left));
@@ -75,12 +78,13 @@ impl Proposer<'_> {
         find_sources(self.alloc, given, clocks, fuel)
     }
 
-    // These orders with all that follows from single sources.
+    // These orders with all that follows from single sources, where the fuel is enough.
     fn saturated(&self, given: Given, clocks: Clocks, fuel: &mut u64) -> Option<Order> {
         let mut given = given;
         let sources = single_sources(self.alloc, &mut given)?;
         let facts = Facts::new(self.alloc, given, sources)?;
         let mut order = Order::new(self.alloc, facts, clocks)?;
+        order.fuel = *fuel / price_of(1, &order).max(1);
         let end = order.spread();
         *fuel = fuel.saturating_sub(price_of(order.visits, &order));
         end?;

@@ -2,7 +2,7 @@
 use crate::beginning::Beginning;
 use crate::facts::Facts;
 use crate::fuel::{fuel_after_walks, fuel_of_search};
-use crate::guessing::{SkewedGuess, price_of};
+use crate::guessing::price_of;
 use crate::guided_walk::GuidedWalk;
 use crate::order::Order;
 use crate::skew::SKEWS;
@@ -187,9 +187,10 @@ impl Proposer<'_> {
 
     /// A schedule that is made from nothing, by all but a walk alone.
     fn complete_by_search(&self, fuel: u64) -> Option<Vec<u8>> {
-        let mut left = fuel_after_walks(self.lengths, self.initials.len(), fuel);
+        let all = fuel_after_walks(self.lengths, self.initials.len(), fuel);
+        let mut left = all;
         if self.has_windows()? && self.has_few_writers()? {
-            let most = left / FIRST_PARTS;
+            let most = all / FIRST_PARTS;
             if let Some(schedule) = self.complete_by_sources(most, &mut left) {
                 return Some(schedule);
             }
@@ -200,12 +201,16 @@ impl Proposer<'_> {
         if let Some(schedule) = self.complete_by_windows(&mut left) {
             return Some(schedule);
         }
-        self.complete_by_sources(fuel, &mut left)
+        let burnt = all.saturating_sub(left);
+        self.complete_by_sources(fuel.saturating_sub(burnt), &mut left)
     }
 
     // A schedule by a walk in which each read has the source that a search chose, with no more than so much of the fuel.
     fn complete_by_sources(&self, most: u64, fuel: &mut u64) -> Option<Vec<u8>> {
         let most = most.min(*fuel);
+        if most == 0 {
+            return None;
+        }
         let mut left = most;
         let schedule = self.complete_by_guess(&mut left);
         *fuel = fuel.saturating_sub(most.saturating_sub(left));
@@ -214,11 +219,17 @@ impl Proposer<'_> {
 
     // The guess's orders aren't kept, since they may need its skew.
     fn complete_by_guess(&self, fuel: &mut u64) -> Option<Vec<u8>> {
-        let nothing = self.beginning(0)?;
-        let part = self.part(&nothing, self.counts, u32::MAX);
-        let SkewedGuess { mut guess, .. } = self.guess(&part, 0..SKEWS + 1, SKEW_DIVISOR, fuel)?;
+        let mut guess = self.guess_sources(fuel)?;
         guess.clocks = Clocks::new(self.alloc, &guess.given.numbering)?;
         self.complete_by(guess, fuel)
+    }
+
+    // What reads may see in all of the trace.
+    fn guess_sources(&self, fuel: &mut u64) -> Option<Guess> {
+        let nothing = self.beginning(0)?;
+        let part = self.part(&nothing, self.counts, u32::MAX);
+        let skewed = self.guess(&part, 0..SKEWS + 1, SKEW_DIVISOR, fuel)?;
+        Some(skewed.guess)
     }
 
     // Whether half of the reads at least found what few writes wrote.
