@@ -112,7 +112,8 @@ impl Search {
         Some(())
     }
 
-    // Keeps what contradicts itself as a clause, and goes back to where that tells something new.
+    // Keeps what contradicts itself as a clause, and goes back to where that tells something new; for a schedule half as far, since
+    // most of what was chosen may stay.
     fn learn(&mut self, conflict: Conflict) -> Option<()> {
         let block = match self.sought {
             Sought::Schedule => Derivation {
@@ -126,7 +127,11 @@ impl Search {
         let (newest, watched) = (*newest, [others.len(), second]);
         let base = self.trail.first_steps()?;
         self.choices.age();
-        self.undo_to(level)?;
+        let kept = match self.sought {
+            Sought::Schedule if level > 0 => level.midpoint(conflict.level),
+            _ => level,
+        };
+        self.undo_to(kept)?;
         let k = self.clauses.add(claims, watched, block, base)?;
         self.infer(k, newest)
     }
