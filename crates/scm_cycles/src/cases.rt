@@ -112,8 +112,8 @@ impl Search {
         Some(())
     }
 
-    // Keeps what contradicts itself as a clause, and goes back to where that tells something new; for a schedule half as far, since
-    // most of what was chosen may stay.
+    // Keeps what contradicts itself as a clause, and goes back to where that tells something new; for a schedule half way there, since
+    // most of what was chosen may stay. A clause of one claim isn't watched: what it tells has to stay.
     fn learn(&mut self, conflict: Conflict) -> Option<()> {
         let block = match self.sought {
             Sought::Schedule => Derivation {
