@@ -1,9 +1,9 @@
 //! Schedules that are proposed and judged.
-ghost use Rattle.std.specs.Prelude.{reverse, IfOk, IfSome, IsTrue};
+ghost use Rattle.std.specs.Prelude.{◌↔◌, reverse, IfOk, IfSome, IsTrue};
 ghost use Rattle.scm_sequences.specs.declared.limits.TheConstants.{MOST_CELLS};
 ghost use Rattle.scm_sequences.specs.Sequences.{IsWithin, lengths_of};
 ghost use Rattle.scm_sequences.specs.Traces.{trace_of, cut_to, IsSchedule};
-ghost use Rattle.scm_book.specs.inner.Loans.{CanJudge};
+ghost use Rattle.scm_book.specs.inner.Loans.{CanJudge, IsSettled};
 
 use crate::known_schedules::KnownSchedules;
 use crate::loan::PARTS_IN_WORDS;
@@ -71,6 +71,7 @@ impl Proposing<'_> {
     /// Whether the set has the answer.
     pub(crate) fn is_settled(&self, reach: &Reach) -> bool
         requires { IsWithin self.now.lengths.now (lengths_of self.now.sequences.now) }
+        ensures { IsTrue result ↔ IsSettled self.now.sequences.now self.now.lengths.now reach.now.members }
     {
         reach.holds_whole(self.sequences, self.lengths) || !reach.is_open(self.sequences)
     }

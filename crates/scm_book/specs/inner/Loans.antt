@@ -6,9 +6,10 @@ use Rattle.scm_sequences.specs.declared.op.Op.{Op}
 use Rattle.scm_sequences.specs.Sequences.{NamesCellsBelow, IsWithin, operations, lengths_of}
 use Rattle.scm_sequences.specs.Traces.{Trace, cut_to, trace_of}
 use Rattle.scm_cells.specs.CellLists.{initials_of}
-use Rattle.scm_reach.specs.Kept.{Kept, IsKept}
+use Rattle.scm_reach.specs.Kept.{Kept, Member, IsKept}
 use Rattle.scm_reach.specs.inner.Carrying.{IsCarriedOver}
-use Rattle.scm_reach.specs.Work.{KeepsWork}
+use Rattle.scm_reach.specs.inner.Handing.{HasOpen}
+use Rattle.scm_reach.specs.Work.{HasWhole, KeepsWork}
 use Rattle.scm_book.specs.Machine.{CallData, asks, asks_why, Machine, TraceState, trace_named}
 use Rattle.scm_book.specs.Journal.{BookState, IsUnchanged}
 use Rattle.scm_book.specs.inner.Sets.{asked_lengths, Becomes}
@@ -60,6 +61,10 @@ pub record HasWorked (old : Loaned) (n : ℕ) (new : Loaned) : Type 0 where
   pub more : limit ≤ length old.set.members + n
   pub reached : (limit ≡ old.limit) ⊎ (limit ≡ length old.set.members + n)
   pub searched : HasSearchedWithin limit old new
+
+-- a set has a situation with every operation within the lengths, or nothing is left to be looked at
+abbrev pub IsSettled : List (List Op) → List ℕ → List Member → Type 0
+IsSettled sequences lengths members = HasWhole lengths members ⊎ (HasOpen sequences members → ⊥)
 
 -- ---- copying
 
