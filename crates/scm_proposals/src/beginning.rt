@@ -1,5 +1,5 @@
 //! The beginning of a schedule, made operation by operation.
-use scm_sequences::{Lengths, Op, Sequences};
+use scm_sequences::{Lengths, Sequences};
 use std::alloc::Global;
 
 pub(crate) fn copy<T: Copy>(alloc: Global, list: &[T]) -> Option<Vec<T>> {
@@ -63,12 +63,9 @@ impl Beginning {
         lengths: &Lengths,
         p: usize,
     ) -> Option<()> {
-        let op = next_of(p, *self.counts.get(p)?, sequences, lengths)?;
-        if !op.finds(*self.contents.get(op.cell())?) {
-            return None;
-        }
+        make_next(&mut self.counts, &mut self.contents, sequences, lengths, p)?;
         self.len = self.len.checked_add(1)?;
-        make(&mut self.counts, &mut self.contents, p, op)
+        Some(())
     }
 
     /// How many operations were made.
@@ -76,44 +73,34 @@ impl Beginning {
         self.len
     }
 
-    /// How many places stay where so many are dropped from the end.
-    pub(crate) fn len_without(&self, tail: usize) -> usize {
-        self.len.saturating_sub(tail)
-    }
-
     /// How many operations within the lengths are left.
     pub fn left(&self, lengths: &Lengths) -> usize {
         let mut left: usize = 0;
-        for p in 0..lengths.procs() {
-            left = left.saturating_add(lengths.get(p) as usize);
+        for count in lengths.counts() {
+            left = left.saturating_add(*count as usize);
         }
         left.saturating_sub(self.len)
     }
 }
 
-/// The next operation of process `p` within the lengths.
-pub(crate) fn next_of(
-    p: usize,
-    count: u32,
-    sequences: &Sequences,
-    lengths: &Lengths,
-) -> Option<Op> {
-    if p < lengths.procs() && count < lengths.get(p) {
-        sequences.next(p, count as usize)
-    } else {
-        None
-    }
-}
-
-/// Makes the next operation of process `p`.
-pub(crate) fn make(
+/// Makes the next operation of process `p`, where it is there, within the lengths, and legal.
+pub(crate) fn make_next(
     counts: &mut [u32],
     contents: &mut [Option<u64>],
+    sequences: &Sequences,
+    lengths: &Lengths,
     p: usize,
-    op: Op,
 ) -> Option<()> {
     let count = counts.get_mut(p)?;
+    if *count >= *lengths.counts().get(p)? {
+        return None;
+    }
+    let op = sequences.next(p, *count as usize)?;
+    let content = contents.get_mut(op.cell())?;
+    if !op.finds(*content) {
+        return None;
+    }
     *count = count.checked_add(1)?;
-    *contents.get_mut(op.cell())? = Some(op.value_after());
+    *content = Some(op.value_after());
     Some(())
 }

@@ -22,18 +22,16 @@ pub(crate) struct RankedOperation {
 impl GuidedWalk {
     /// The best operation that can be made, if there is one.
     pub(crate) fn choose(&self) -> Option<RankedOperation> {
-        let procs = self.order.facts.procs;
         let mut best = self.choice(self.last);
-        for process in 0..procs {
+        for process in 0..self.order.facts.procs {
             if best.is_some_and(|choice| choice.rank == Rank::Harmless) {
                 break;
             }
-            let other = self.choice(process);
-            best = match (best, other) {
-                (Some(first), Some(second)) if second.rank < first.rank => Some(second),
-                (None, second) => second,
-                (first, _) => first,
-            };
+            if let Some(other) = self.choice(process)
+                && best.is_none_or(|choice| other.rank < choice.rank)
+            {
+                best = Some(other);
+            }
         }
         best
     }
@@ -64,14 +62,14 @@ impl GuidedWalk {
     // Whether `x` finds what it read, written by its source if that is known.
     fn finds(&self, x: u32) -> Option<bool> {
         let facts = &self.order.facts;
-        let cell = facts.given.numbering.cell(x)?;
-        let Some(found) = facts.found(x) else {
+        let Some(found) = facts.given.values.found(x) else {
             return Some(true);
         };
-        if let Some(source) = facts.source(x) {
-            return Some(self.memory.writer(cell)? == source);
-        }
-        Some(self.memory.value(cell).is_none_or(|value| value == found))
+        let content = self.content(x)?;
+        Some(match facts.source(x) {
+            Some(source) => content.writer == source,
+            None => content.value.is_none_or(|value| value == found),
+        })
     }
 
     // `None` for a write that can't be made now.
@@ -80,13 +78,13 @@ impl GuidedWalk {
         if facts.is_harmless(x) {
             return Some(Rank::Harmless);
         }
-        let cell = facts.given.numbering.cell(x)?;
-        let writer = self.memory.writer(cell)?;
+        let writer = self.content(x)?.writer;
         let is_own = facts.source(x) == Some(writer);
-        if self.is_barred(x, cell)? || self.readers.get(writer)? > u32::from(is_own) {
+        let is_barred = self.barred.get(x)? == writer.checked_add(1)?;
+        if is_barred || self.readers.get(writer)? > u32::from(is_own) {
             return None;
         }
-        if is_own || facts.sources.are_known && self.readers.get(x)? == 0 {
+        if is_own || facts.are_sources_known && self.readers.get(x)? == 0 {
             return Some(Rank::Safe);
         }
         Some(Rank::Read {
@@ -98,7 +96,7 @@ impl GuidedWalk {
     fn distance(&self, x: u32) -> Option<u32> {
         let mut distance: u32 = 0;
         for process in 0..self.order.facts.procs {
-            let last = self.order.facts.sources.readers.get(x, process)?;
+            let last = self.order.facts.readers.get(x, process)?;
             let count = self.order.counts.get(process)?;
             distance = distance.saturating_add(last.saturating_sub(count));
         }

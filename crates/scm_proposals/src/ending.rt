@@ -1,6 +1,6 @@
 //! Whether a trace's end is near: then no proposal is needed.
-use crate::beginning::{make, next_of};
-use scm_sequences::{Lengths, Op, Sequences};
+use crate::beginning::make_next;
+use scm_sequences::{Lengths, Sequences};
 
 /// The most operations that are left near the end.
 const MOST_LEFT: usize = 64;
@@ -18,30 +18,25 @@ pub fn is_near_end(
     most: usize,
 ) -> bool {
     for _ in 0..=most.min(MOST_LEFT) {
-        let Some((p, op)) = next_legal(counts, contents, sequences, lengths) else {
+        if !make_first(counts, contents, sequences, lengths) {
             return counts.iter().enumerate().all(|(p, count)| p < lengths.procs()
                 && *count == lengths.get(p));
-        };
-        if make(counts, contents, p, op).is_none() {
-            return false;
         }
     }
     false
 }
 
-/// The first process whose next operation is there and legal, with that operation.
-fn next_legal(
-    counts: &[u32],
-    contents: &[Option<u64>],
+/// Makes the next operation of the first process whose one is there and legal. Whether there is one.
+fn make_first(
+    counts: &mut [u32],
+    contents: &mut [Option<u64>],
     sequences: &Sequences,
     lengths: &Lengths,
-) -> Option<(usize, Op)> {
-    for (p, count) in counts.iter().enumerate() {
-        if let Some(op) = next_of(p, *count, sequences, lengths) {
-            if op.finds(*contents.get(op.cell())?) {
-                return Some((p, op));
-            }
+) -> bool {
+    for p in 0..counts.len() {
+        if make_next(counts, contents, sequences, lengths, p).is_some() {
+            return true;
         }
     }
-    None
+    false
 }

@@ -18,9 +18,8 @@ const LONGEST_WORD: usize = u128::BITS as usize;
 /// more apart: the other search mostly settles the question itself then.
 pub(crate) fn fuel_of_search(lengths: &Lengths, room: usize) -> u64 {
     let mut situations: u64 = 1;
-    for process in 0..lengths.procs() {
-        let counts = u64::from(lengths.get(process)).saturating_add(1);
-        situations = situations.saturating_mul(counts);
+    for count in lengths.counts() {
+        situations = situations.saturating_mul(u64::from(*count).saturating_add(1));
     }
     if situations <= room as u64 {
         return 0;
@@ -37,9 +36,8 @@ pub(crate) fn fuel_of_search(lengths: &Lengths, room: usize) -> u64 {
 /// search over sources may burn so much.
 pub(crate) fn fuel_after_walks(lengths: &Lengths, cells: usize, fuel: u64) -> u64 {
     let mut bits = cells;
-    for process in 0..lengths.procs() {
-        let unused = lengths.get(process).leading_zeros();
-        bits = bits.saturating_add(u32::BITS.saturating_sub(unused) as usize);
+    for count in lengths.counts() {
+        bits = bits.saturating_add(u32::BITS.saturating_sub(count.leading_zeros()) as usize);
     }
     if bits > LONGEST_WORD {
         fuel.saturating_mul(FUEL_IN_FULL)

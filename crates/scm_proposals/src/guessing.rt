@@ -72,15 +72,13 @@ impl Proposer<'_> {
         if given.numbering.len()? <= MOST_OF_SMALL {
             return find_sources(self.alloc, given, clocks, fuel);
         }
-        let order = self.saturated(given, clocks, fuel)?;
-        let Order { facts, clocks, .. } = order;
+        let Order { facts, clocks, .. } = self.saturated(given, clocks, fuel)?;
         let Facts { given, .. } = facts;
         find_sources(self.alloc, given, clocks, fuel)
     }
 
     // These orders with all that follows from single sources, where the fuel is enough.
-    fn saturated(&self, given: Given, clocks: Clocks, fuel: &mut u64) -> Option<Order> {
-        let mut given = given;
+    fn saturated(&self, mut given: Given, clocks: Clocks, fuel: &mut u64) -> Option<Order> {
         let sources = single_sources(self.alloc, &mut given)?;
         let facts = Facts::new(self.alloc, given, sources)?;
         let mut order = Order::new(self.alloc, facts, clocks)?;

@@ -1,6 +1,5 @@
 //! The walk: one operation after the other.
 use crate::choosing::{Rank, RankedOperation};
-use crate::memory::{Before, Memory};
 use crate::numbers::Numbers;
 use crate::order::Order;
 use std::alloc::Global;
@@ -15,18 +14,27 @@ const INCOME_OF_PROCESS: u64 = 3;
 #[derive(Drop)]
 pub(crate) struct GuidedWalk {
     pub(crate) order: Order,
-    pub(crate) memory: Memory,
+    /// What each cell holds.
+    memory: Vec<Content>,
     pub(crate) last: u32,
     /// How many known readers of each writer are to be made.
     pub(crate) readers: Numbers,
-    // For each write the writer of what its cell holds, and 1, over which it may not be made.
-    barred: Numbers,
+    /// For each write the writer of what its cell holds, and 1, over which it may not be made.
+    pub(crate) barred: Numbers,
     bars: Vec<Bar>,
     made: Vec<MadeOperation>,
     decisions: Vec<Decision>,
-    // The most operations that were made, and how much fuel there may be at a time.
-    farthest: usize,
+    /// The most operations that were made.
+    pub(crate) farthest: usize,
+    // How much fuel there may be at a time.
     patience: u64,
+}
+
+/// The value that a cell holds, which an open one has not, and which operation wrote it.
+#[derive(Clone, Copy)]
+pub(crate) struct Content {
+    pub(crate) value: Option<u32>,
+    pub(crate) writer: u32,
 }
 
 /// An operation that was made, and what its cell held before.
@@ -34,7 +42,7 @@ pub(crate) struct GuidedWalk {
 struct MadeOperation {
     x: u32,
     process: u32,
-    before: Before,
+    before: Content,
 }
 
 /// A write that was barred, and what barred it before.
@@ -57,9 +65,13 @@ struct Decision {
 impl GuidedWalk {
     /// Before any operation. Where it makes no more operations than before, it burns no more than `patience`.
     pub(crate) fn new(alloc: Global, order: Order, patience: u64) -> Option<GuidedWalk> {
-        let memory = Memory::new(alloc, &order.facts)?;
-        let writers = order.facts.ops.checked_add(order.facts.cells)?;
-        let readers = order.facts.sources.counts(alloc, writers)?;
+        let mut memory = Vec::new(alloc);
+        for cell in 0..order.facts.cells {
+            let value = order.facts.given.values.first(cell)?;
+            let writer = order.facts.ops.checked_add(cell)?;
+            memory.push(Content { value, writer }).ok()?;
+        }
+        let readers = order.facts.reader_counts(alloc)?;
         let barred = Numbers::zeros(alloc, order.facts.ops)?;
         Some(GuidedWalk {
             order,
@@ -75,9 +87,17 @@ impl GuidedWalk {
         })
     }
 
-    /// Whether any operation can be made, as far as was seen.
-    pub(crate) fn has_begun(&self) -> bool {
-        self.farthest > 0
+    /// What the cell of `x` holds.
+    pub(crate) fn content(&self, x: u32) -> Option<Content> {
+        let cell = self.order.facts.given.numbering.cell(x)?;
+        self.memory.get(cell as usize).copied()
+    }
+
+    // Puts what the cell of `x` holds from now on.
+    fn set_content(&mut self, x: u32, content: Content) -> Option<()> {
+        let cell = self.order.facts.given.numbering.cell(x)?;
+        *self.memory.get_mut(cell as usize)? = content;
+        Some(())
     }
 
     /// Makes all operations, once the order is saturated. `None` where it gives up.
@@ -93,7 +113,10 @@ impl GuidedWalk {
             self.order.burn()?;
             match self.choose() {
                 Some(choice) => self.try_out(choice)?,
-                None => self.take_back_decision()?,
+                None => {
+                    let decision = self.decisions.pop()?;
+                    self.take_back(decision)?;
+                },
             }
         }
         None
@@ -133,11 +156,6 @@ impl GuidedWalk {
         Some(())
     }
 
-    fn take_back_decision(&mut self) -> Option<()> {
-        let decision = self.decisions.pop()?;
-        self.take_back(decision)
-    }
-
     // Takes back all from a write on, and bars it. What was barred meanwhile was so because that write was made.
     fn take_back(&mut self, decision: Decision) -> Option<()> {
         self.order.clocks.take_back(decision.changes)?;
@@ -145,36 +163,24 @@ impl GuidedWalk {
             self.order.burn()?;
             self.unmake()?;
         }
-        self.lift_bars(decision.bars)?;
-        self.bar(decision.x)
-    }
-
-    // Leaves so many writes barred.
-    fn lift_bars(&mut self, kept: usize) -> Option<()> {
-        for _ in kept..self.bars.len() {
+        for _ in decision.bars..self.bars.len() {
             let bar = self.bars.pop()?;
             self.barred.set(bar.x, bar.before)?;
         }
-        Some(())
+        self.bar(decision.x)
     }
 
     // A write may not be made as long as its cell holds what it holds now.
     fn bar(&mut self, x: u32) -> Option<()> {
-        let cell = self.order.facts.given.numbering.cell(x)?;
-        let writer = self.memory.writer(cell)?;
+        let writer = self.content(x)?.writer;
         let before = self.barred.get(x)?;
         self.bars.push(Bar { x, before }).ok()?;
         self.barred.set(x, writer.checked_add(1)?)
     }
 
-    pub(crate) fn is_barred(&self, x: u32, cell: u32) -> Option<bool> {
-        Some(self.barred.get(x)? == self.memory.writer(cell)?.checked_add(1)?)
-    }
-
     fn make(&mut self, x: u32) -> Option<()> {
         let (process, _) = self.order.facts.given.numbering.spot(x)?;
-        let cell = self.order.facts.given.numbering.cell(x)?;
-        let before = self.memory.before(cell)?;
+        let before = self.content(x)?;
         self.made.push(MadeOperation { x, process, before }).ok()?;
         self.last = process;
         self.order.counts.raise(process)?;
@@ -182,23 +188,22 @@ impl GuidedWalk {
         if let Some(source) = self.order.facts.source(x) {
             self.readers.lower(source)?;
         }
-        if let Some(found) = self.order.facts.found(x) {
-            self.memory.hold(cell, found)?;
+        let values = &self.order.facts.given.values;
+        if self.order.facts.is_harmless(x) {
+            let value = values.found(x).or(before.value);
+            return self.set_content(x, Content { value, ..before });
         }
-        match self.order.facts.written(x) {
-            Some(value) if !self.order.facts.is_harmless(x) => self.memory.write(cell, x, value),
-            _ => Some(()),
-        }
+        let value = values.written(x);
+        self.set_content(x, Content { value, writer: x })
     }
 
     fn unmake(&mut self) -> Option<()> {
         let MadeOperation { x, process, before } = self.made.pop()?;
-        let cell = self.order.facts.given.numbering.cell(x)?;
         self.order.counts.lower(process)?;
         if let Some(source) = self.order.facts.source(x) {
             self.readers.raise(source)?;
         }
-        self.memory.put_back(cell, before)
+        self.set_content(x, before)
     }
 
     // Draws the consequences of a write that was just made: the next writes to its cell come after its readers.

@@ -10,7 +10,6 @@ mod facts;
 mod fuel;
 mod guessing;
 mod guided_walk;
-mod memory;
 mod numbers;
 mod order;
 mod proposal;

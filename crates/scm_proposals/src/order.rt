@@ -47,16 +47,10 @@ impl Order {
     // Flags all operations, in turn for all processes.
     fn flag_all(&mut self) -> Option<()> {
         for place in 0..self.facts.ops {
-            self.flag_at(place)?;
-        }
-        Some(())
-    }
-
-    // Flags the operations at a place of all processes.
-    fn flag_at(&mut self, place: u32) -> Option<()> {
-        for process in 0..self.facts.procs {
-            if let Some(x) = self.facts.given.numbering.number(process, place) {
-                self.flags.add(x)?;
+            for process in 0..self.facts.procs {
+                if let Some(x) = self.facts.given.numbering.number(process, place) {
+                    self.flags.add(x)?;
+                }
             }
         }
         Some(())
@@ -72,12 +66,6 @@ impl Order {
         self.fuel = self.fuel.checked_sub(1)?;
         self.visits = self.visits.saturating_add(1);
         Some(())
-    }
-
-    /// Whether an operation was made.
-    pub(crate) fn is_made(&self, x: u32) -> Option<bool> {
-        let (process, place) = self.facts.given.numbering.spot(x)?;
-        Some(place < self.counts.get(process)?)
     }
 
     /// Flags an operation that lies within the window.

@@ -1,5 +1,5 @@
 //! A proposal for a schedule.
-use crate::beginning::Beginning;
+use crate::beginning::{Beginning, copy};
 use crate::facts::Facts;
 use crate::fuel::{fuel_after_walks, fuel_of_search};
 use crate::guessing::price_of;
@@ -13,7 +13,8 @@ use scm_sequences::{Lengths, Sequences};
 use std::alloc::Global;
 
 /// How many visits a walk makes at least where it makes no more operations than before, and for how many situations of the limit
-/// it makes one more if all sources are known: one costs about as much as a situation that is searched.
+/// it makes one more if all sources are known: one costs about as much as a situation that is searched. Where sources are open a
+/// search finds more with the fuel.
 const SITUATIONS_OF_PATIENCE: usize = 8;
 
 const LEAST_PATIENCE: u64 = 10_000;
@@ -42,7 +43,6 @@ pub(crate) struct Proposer<'a> {
     pub(crate) lengths: &'a Lengths,
     /// The lengths as a list.
     pub(crate) counts: &'a [u32],
-    earlier: &'a [u8],
     limit: usize,
 }
 
@@ -85,10 +85,9 @@ pub fn propose_by_walks(
         sequences,
         lengths,
         counts: lengths.counts(),
-        earlier,
         limit,
     };
-    proposer.complete_earlier(fuel_of_search(lengths, room))
+    proposer.complete_earlier(earlier, fuel_of_search(lengths, room))
 }
 
 /// The same after walks, with this fuel: in long turns, or else window by window, or else by a walk in which each read has the
@@ -107,7 +106,6 @@ pub fn propose_by_search(
         sequences,
         lengths,
         counts: lengths.counts(),
-        earlier: &[],
         limit,
     };
     if fuel == 0 {
@@ -117,10 +115,10 @@ pub fn propose_by_search(
 }
 
 impl Proposer<'_> {
-    /// What the first `kept` places of the earlier schedule make, as far as they are legal.
-    fn beginning(&self, kept: usize) -> Option<Beginning> {
+    /// What these places make, as far as they are legal.
+    pub(crate) fn beginning(&self, places: &[u8]) -> Option<Beginning> {
         let mut beginning = Beginning::new(self.alloc, self.initials, self.lengths.procs())?;
-        beginning.follow(self.sequences, self.lengths, self.earlier.get(..kept)?);
+        beginning.follow(self.sequences, self.lengths, places);
         Some(beginning)
     }
 
@@ -141,29 +139,27 @@ impl Proposer<'_> {
         }
     }
 
-    /// All operations after so many places of the earlier schedule.
-    pub(crate) fn given(&self, kept: usize) -> Option<Given> {
+    /// All operations after these places of a schedule.
+    fn given(&self, kept: &[u8]) -> Option<Given> {
         let beginning = self.beginning(kept)?;
         Given::new(self.alloc, &self.part(&beginning, self.counts, u32::MAX))
     }
 
-    /// A schedule that begins with so many places of the earlier one.
-    fn go_on(&self, kept: usize, fuel: &mut u64) -> Option<Vec<u8>> {
-        let mut walk = self.walk(kept)?;
-        self.complete(kept, &mut walk, fuel)
-    }
-
     /// A schedule that goes on from the earlier one as far as that is legal, or else from less and less of it, at last from
-    /// nothing; or what is left of the fuel.
-    fn complete_earlier(&self, mut fuel: u64) -> Result<Vec<u8>, u64> {
-        let longest = self.beginning(self.earlier.len()).ok_or(0u64)?;
+    /// nothing; or what is left of the fuel: nothing where no schedule exists as far as was seen.
+    fn complete_earlier(&self, earlier: &[u8], mut fuel: u64) -> Result<Vec<u8>, u64> {
+        let longest = self.beginning(earlier).ok_or(0u64)?;
         let mut tail = 0;
         for _ in 0..usize::BITS {
-            let kept = longest.len_without(tail);
-            if kept == 0 {
+            let kept = earlier
+                .get(..longest.made().saturating_sub(tail))
+                .ok_or(0u64)?;
+            if kept.is_empty() {
                 break;
             }
-            if let Some(schedule) = self.go_on(kept, &mut fuel) {
+            if let Some(mut walk) = self.walk(kept)
+                && let Some(schedule) = self.complete(kept, &mut walk, &mut fuel)
+            {
                 return Ok(schedule);
             }
             tail = tail
@@ -171,16 +167,10 @@ impl Proposer<'_> {
                 .max(longest.left(self.lengths))
                 .max(SHORTEST_TAIL);
         }
-        self.complete_from_nothing(fuel)
-    }
-
-    /// A schedule that is made from nothing by a walk; or what is left of the fuel: nothing where no schedule exists as far as was
-    /// seen.
-    fn complete_from_nothing(&self, mut fuel: u64) -> Result<Vec<u8>, u64> {
-        let mut walk = self.walk(0).ok_or(0u64)?;
-        match self.complete(0, &mut walk, &mut fuel) {
+        let mut walk = self.walk(&[]).ok_or(0u64)?;
+        match self.complete(&[], &mut walk, &mut fuel) {
             Some(schedule) => Ok(schedule),
-            None if walk.has_begun() => Err(fuel),
+            None if walk.farthest > 0 => Err(fuel),
             None => Err(0),
         }
     }
@@ -189,7 +179,8 @@ impl Proposer<'_> {
     fn complete_by_search(&self, fuel: u64) -> Option<Vec<u8>> {
         let all = fuel_after_walks(self.lengths, self.initials.len(), fuel);
         let mut left = all;
-        if self.has_windows()? && self.has_few_writers()? {
+        let has_windows = self.has_windows()?;
+        if has_windows && self.has_few_writers()? {
             let most = all / FIRST_PARTS;
             if let Some(schedule) = self.complete_by_sources(most, &mut left) {
                 return Some(schedule);
@@ -198,7 +189,7 @@ impl Proposer<'_> {
         if let Some(schedule) = self.complete_by_turns(&mut left) {
             return Some(schedule);
         }
-        if let Some(schedule) = self.complete_by_windows(&mut left) {
+        if has_windows && let Some(schedule) = self.complete_by_windows(&mut left) {
             return Some(schedule);
         }
         let burnt = all.saturating_sub(left);
@@ -219,22 +210,16 @@ impl Proposer<'_> {
 
     // The guess's orders aren't kept, since they may need its skew.
     fn complete_by_guess(&self, fuel: &mut u64) -> Option<Vec<u8>> {
-        let mut guess = self.guess_sources(fuel)?;
+        let nothing = self.beginning(&[])?;
+        let part = self.part(&nothing, self.counts, u32::MAX);
+        let mut guess = self.guess(&part, 0..SKEWS + 1, SKEW_DIVISOR, fuel)?.guess;
         guess.clocks = Clocks::new(self.alloc, &guess.given.numbering)?;
         self.complete_by(guess, fuel)
     }
 
-    // What reads may see in all of the trace.
-    fn guess_sources(&self, fuel: &mut u64) -> Option<Guess> {
-        let nothing = self.beginning(0)?;
-        let part = self.part(&nothing, self.counts, u32::MAX);
-        let skewed = self.guess(&part, 0..SKEWS + 1, SKEW_DIVISOR, fuel)?;
-        Some(skewed.guess)
-    }
-
     // Whether half of the reads at least found what few writes wrote.
     fn has_few_writers(&self) -> Option<bool> {
-        let given = self.given(0)?;
+        let given = self.given(&[])?;
         let (mut reads, mut few) = (0u32, 0u32);
         for x in 0..given.numbering.len()? {
             if let Some(value) = given.values.found(x) {
@@ -247,8 +232,8 @@ impl Proposer<'_> {
         Some(few >= reads / 2)
     }
 
-    /// A walk that goes on from so many places.
-    fn walk(&self, kept: usize) -> Option<GuidedWalk> {
+    /// A walk that goes on from these places.
+    fn walk(&self, kept: &[u8]) -> Option<GuidedWalk> {
         let mut given = self.given(kept)?;
         let sources = single_sources(self.alloc, &mut given)?;
         let clocks = Clocks::new(self.alloc, &given.numbering)?;
@@ -263,7 +248,12 @@ impl Proposer<'_> {
         clocks: Clocks,
     ) -> Option<GuidedWalk> {
         let facts = Facts::new(self.alloc, given, sources)?;
-        let patience = self.patience(&facts);
+        let more = if facts.are_sources_known {
+            self.limit / SITUATIONS_OF_PATIENCE
+        } else {
+            0
+        };
+        let patience = LEAST_PATIENCE.saturating_add(more as u64);
         let order = Order::new(self.alloc, facts, clocks)?;
         GuidedWalk::new(self.alloc, order, patience)
     }
@@ -277,30 +267,16 @@ impl Proposer<'_> {
             ..
         } = guess;
         let mut walk = self.walk_by(given, sources, clocks)?;
-        self.complete(0, &mut walk, fuel)
+        self.complete(&[], &mut walk, fuel)
     }
 
-    /// So many places of the earlier schedule, and then the walk, if it comes to its end: that burns fuel of the search.
-    fn complete(&self, kept: usize, walk: &mut GuidedWalk, fuel: &mut u64) -> Option<Vec<u8>> {
+    /// These places of a schedule, and then the walk, if it comes to its end: that burns fuel of the search.
+    fn complete(&self, kept: &[u8], walk: &mut GuidedWalk, fuel: &mut u64) -> Option<Vec<u8>> {
         let end = walk.make_all();
         *fuel = fuel.saturating_sub(price_of(walk.order.visits, &walk.order));
         end?;
-        let mut schedule = Vec::new(self.alloc);
-        for place in self.earlier.get(..kept)? {
-            schedule.push(*place).ok()?;
-        }
+        let mut schedule = copy(self.alloc, kept)?;
         walk.add_to(&mut schedule)?;
         Some(schedule)
-    }
-
-    // How many visits a walk makes at most where it makes no more operations than before. Where sources are open a search finds
-    // more with the fuel.
-    fn patience(&self, facts: &Facts) -> u64 {
-        let more = if facts.sources.are_known {
-            self.limit / SITUATIONS_OF_PATIENCE
-        } else {
-            0
-        };
-        LEAST_PATIENCE.saturating_add(more as u64)
     }
 }

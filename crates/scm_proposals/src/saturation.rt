@@ -3,17 +3,8 @@ use crate::order::Order;
 use scm_clocks::is_covered;
 
 impl Order {
-    /// Visits what is flagged until nothing is. `None` where the order contradicts itself or the fuel is spent; nothing
-    /// is flagged then either.
+    /// Visits what is flagged until nothing is. `None` where the order contradicts itself or the fuel is spent.
     pub(crate) fn spread(&mut self) -> Option<()> {
-        let end = self.visit_flagged();
-        if end.is_none() {
-            self.flags.clear();
-        }
-        end
-    }
-
-    fn visit_flagged(&mut self) -> Option<()> {
         for _ in 0..self.fuel {
             let Some(x) = self.flags.next() else {
                 return Some(());
@@ -26,18 +17,27 @@ impl Order {
 
     // Draws the consequences of what comes before `x`.
     fn visit(&mut self, x: u32) -> Option<()> {
-        if self.is_made(x)? {
+        let (process, place) = self.facts.given.numbering.spot(x)?;
+        let made = self.counts.get(process)?;
+        if place < made {
             return Some(());
         }
-        let mut is_new = self.follow_process(x)?;
-        if let Some(source) = self.facts.source(x) {
-            is_new = self.follow_source(x, source)? || is_new;
+        let before = if place > made { x.checked_sub(1) } else { None };
+        let mut is_new = match before {
+            Some(y) => self.absorb(x, y)?,
+            None => false,
+        };
+        let source = self.facts.source(x);
+        if let Some(source) = source
+            && source < self.facts.ops
+        {
+            is_new = self.put_after(x, source)? || is_new;
         }
-        is_new = self.follow_clock(x)? || is_new;
-        if self.facts.written(x).is_some() {
+        is_new = self.follow_clock(x, before)? || is_new;
+        if self.facts.given.values.written(x).is_some() {
             is_new = self.follow_readers(x)? || is_new;
         }
-        if let Some(source) = self.facts.source(x) {
+        if let Some(source) = source {
             self.push_source(x, source)?;
         }
         if is_new {
@@ -46,36 +46,8 @@ impl Order {
         Some(())
     }
 
-    // The operation before `x` of its process, if that isn't made.
-    fn before(&self, x: u32) -> Option<u32> {
-        let y = x.checked_sub(1)?;
-        let (owner, place) = self.facts.given.numbering.spot(x)?;
-        if place > self.counts.get(owner)? {
-            Some(y)
-        } else {
-            None
-        }
-    }
-
-    fn follow_process(&mut self, x: u32) -> Option<bool> {
-        match self.before(x) {
-            Some(y) => self.absorb(x, y),
-            None => Some(false),
-        }
-    }
-
-    // A read comes after its source.
-    fn follow_source(&mut self, x: u32, source: u32) -> Option<bool> {
-        if source < self.facts.ops {
-            self.put_after(x, source)
-        } else {
-            Some(false)
-        }
-    }
-
-    // What comes before `x` has itself something before it.
-    fn follow_clock(&mut self, x: u32) -> Option<bool> {
-        let before = self.before(x);
+    // What comes before `x` has itself something before it; that of its process (`before`, if that isn't made) was absorbed.
+    fn follow_clock(&mut self, x: u32, before: Option<u32>) -> Option<bool> {
         let mut is_new = false;
         for process in 0..self.facts.procs {
             let count = self.clocks.get(x, process)?;
@@ -87,16 +59,20 @@ impl Order {
             {
                 continue;
             }
-            let y = self
-                .facts
-                .given
-                .numbering
-                .number(process, count.checked_sub(1)?)?;
+            let y = self.last_of(process, count)?;
             if y != x {
                 is_new = self.absorb(x, y)? || is_new;
             }
         }
         Some(is_new)
+    }
+
+    // The last one of the first `count` operations of a process.
+    fn last_of(&self, process: u32, count: u32) -> Option<u32> {
+        self.facts
+            .given
+            .numbering
+            .number(process, count.checked_sub(1)?)
     }
 
     // A write comes after all that read what an earlier write to its cell, or the first contents, left there.
@@ -113,7 +89,7 @@ impl Order {
     }
 
     // The last write to a cell, of those of a process that come before `x` and aren't made.
-    pub(crate) fn write_before(&self, x: u32, process: u32, cell: u32) -> Option<Option<u32>> {
+    fn write_before(&self, x: u32, process: u32, cell: u32) -> Option<Option<u32>> {
         let made = self.counts.get(process)?;
         let count = self.clocks.get(x, process)?;
         if count <= made {
@@ -127,24 +103,20 @@ impl Order {
 
     /// Puts the write `x` after all that read from `writer`.
     pub(crate) fn put_after_readers(&mut self, x: u32, writer: u32) -> Option<bool> {
-        if is_covered(self.facts.sources.readers.row(writer)?, self.clocks.row(x)?) {
+        if is_covered(self.facts.readers.row(writer)?, self.clocks.row(x)?) {
             return Some(false);
         }
         let (owner, place) = self.facts.given.numbering.spot(x)?;
         let is_own = self.facts.source(x) == Some(writer);
         let mut is_new = false;
         for process in 0..self.facts.procs {
-            let count = self.facts.sources.readers.get(writer, process)?;
+            let count = self.facts.readers.get(writer, process)?;
             if process == owner {
                 if count > place && !(is_own && count == place.saturating_add(1)) {
                     return None;
                 }
             } else if count > self.counts.get(process)? {
-                let reader = self
-                    .facts
-                    .given
-                    .numbering
-                    .number(process, count.checked_sub(1)?)?;
+                let reader = self.last_of(process, count)?;
                 is_new = self.put_after(x, reader)? || is_new;
             }
         }

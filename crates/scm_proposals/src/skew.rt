@@ -28,7 +28,10 @@ pub(crate) fn skewed_clocks(
     if number < SKEWS {
         let first = first_skew(given)?;
         let growth = first.saturating_mul(number).checked_div(divisor)?;
-        suppose(&mut clocks, given, first.saturating_add(growth))?;
+        let tenths = first.saturating_add(growth);
+        for x in 0..given.numbering.len()? {
+            suppose_at(&mut clocks, given, x, tenths)?;
+        }
     }
     Some(clocks)
 }
@@ -52,13 +55,6 @@ fn first_skew(given: &Given) -> Option<u64> {
             .saturating_sub(SKEW_OFFSET)
             .max(LEAST_FIRST_SKEW),
     )
-}
-
-fn suppose(clocks: &mut Clocks, given: &Given, tenths: u64) -> Option<()> {
-    for x in 0..given.numbering.len()? {
-        suppose_at(clocks, given, x, tenths)?;
-    }
-    Some(())
 }
 
 // At least so many operations of each process come before `x`.

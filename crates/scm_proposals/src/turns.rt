@@ -1,5 +1,5 @@
 //! A schedule of long turns: one process makes many operations, then another one does.
-use crate::beginning::{Beginning, copy, next_of};
+use crate::beginning::{Beginning, copy};
 use crate::proposal::Proposer;
 use crate::turn_ops::{TurnOp, turn_ops_of};
 use scm_sequences::{Lengths, Op, Sequences};
@@ -49,7 +49,7 @@ impl Proposer<'_> {
     pub(crate) fn complete_by_turns(&self, fuel: &mut u64) -> Option<Vec<u8>> {
         let nothing = Turns {
             schedule: Vec::new(self.alloc),
-            made: Beginning::new(self.alloc, self.initials, self.counts.len())?,
+            made: self.beginning(&[])?,
             last: None,
         };
         let mut search = TurnSearch {
@@ -76,12 +76,6 @@ impl Proposer<'_> {
         }
         Some(turn_ops)
     }
-}
-
-// Whether the same is made, in any order, by one of these.
-fn are_made(kept: &[Turns], turns: &Turns) -> bool {
-    kept.iter()
-        .any(|other: &Turns| other.made.is_same(&turns.made))
 }
 
 impl TurnSearch<'_> {
@@ -182,8 +176,9 @@ impl TurnSearch<'_> {
     }
 
     fn next(&self, made: &Beginning, process: u32) -> Option<Op> {
-        let p = process as usize;
-        next_of(p, *made.counts.get(p)?, self.sequences, self.lengths)
+        let count = *made.counts.get(process as usize)?;
+        let turn_op = self.turn_ops.get(process as usize)?.get(count as usize)?;
+        Some(turn_op.op)
     }
 
     // Of those that are the same but for their order one is kept.
@@ -194,7 +189,10 @@ impl TurnSearch<'_> {
                 break;
             }
             let turns = self.with(beginnings.get(turn.beginning)?, *turn)?;
-            if !are_made(kept.as_slice(), &turns) {
+            if !kept
+                .iter()
+                .any(|other: &Turns| other.made.is_same(&turns.made))
+            {
                 kept.push(turns).ok()?;
             }
         }

@@ -91,14 +91,11 @@ impl Proposer<'_> {
         Some(self.counts.len() <= MOST_PROCESSES_OF_WINDOWS && longest >= least)
     }
 
-    /// A schedule of a long trace of few processes, none of which gets far ahead of the others.
+    /// A schedule of a trace where windows are made, none of whose processes gets far ahead of the others.
     pub(crate) fn complete_by_windows(&self, fuel: &mut u64) -> Option<Vec<u8>> {
-        if !self.has_windows()? {
-            return None;
-        }
         let width = self.window_width()?;
         let mut progress = WindowProgress {
-            beginning: Beginning::new(self.alloc, self.initials, self.counts.len())?,
+            beginning: self.beginning(&[])?,
             schedule: Vec::new(self.alloc),
             width,
             skew_number: 0,
@@ -173,10 +170,7 @@ impl Proposer<'_> {
         let kept = progress.schedule.len().saturating_sub(progress.kept());
         *fuel = fuel.checked_sub(kept as u64)?;
         progress.schedule.truncate(kept);
-        progress.beginning = Beginning::new(self.alloc, self.initials, self.counts.len())?;
-        progress
-            .beginning
-            .follow(self.sequences, self.lengths, progress.schedule.as_slice());
+        progress.beginning = self.beginning(progress.schedule.as_slice())?;
         progress.failed = progress.failed.saturating_add(u32::from(is_widened));
         progress.width = widened;
         progress.skew_number = 0;
