@@ -2,14 +2,6 @@
 use scm_sequences::{Lengths, Sequences};
 use std::alloc::Global;
 
-pub(crate) fn copy<T: Copy>(alloc: Global, list: &[T]) -> Option<Vec<T>> {
-    let mut copy = Vec::new(alloc);
-    for item in list {
-        copy.push(*item).ok()?;
-    }
-    Some(copy)
-}
-
 /// What the first places of a schedule make: how many operations of each process, and what the cells hold then.
 #[derive(Drop)]
 pub struct Beginning {
@@ -23,15 +15,15 @@ impl Beginning {
     pub fn new(alloc: Global, initials: &[Option<u64>], procs: usize) -> Option<Beginning> {
         Some(Beginning {
             counts: vec![in alloc; 0; procs].ok()?,
-            contents: copy(alloc, initials)?,
+            contents: initials.to_vec(alloc).ok()?,
             len: 0,
         })
     }
 
     pub(crate) fn copy(&self, alloc: Global) -> Option<Beginning> {
         Some(Beginning {
-            counts: copy(alloc, self.counts.as_slice())?,
-            contents: copy(alloc, self.contents.as_slice())?,
+            counts: self.counts.to_vec(alloc).ok()?,
+            contents: self.contents.to_vec(alloc).ok()?,
             len: self.len,
         })
     }

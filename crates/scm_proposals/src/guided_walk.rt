@@ -30,7 +30,7 @@ pub(crate) struct GuidedWalk {
     patience: u64,
 }
 
-/// The value that a cell holds, which an open one has not, and which operation wrote it.
+/// The value that a cell holds, `None` where it is open, and which operation wrote it.
 #[derive(Clone, Copy)]
 pub(crate) struct Content {
     pub(crate) value: Option<u32>,

@@ -1,5 +1,5 @@
 //! A proposal for a schedule.
-use crate::beginning::{Beginning, copy};
+use crate::beginning::Beginning;
 use crate::facts::Facts;
 use crate::fuel::{fuel_after_walks, fuel_of_search};
 use crate::guessing::price_of;
@@ -41,8 +41,6 @@ pub(crate) struct Proposer<'a> {
     pub(crate) initials: &'a [Option<u64>],
     pub(crate) sequences: &'a Sequences,
     pub(crate) lengths: &'a Lengths,
-    /// The lengths as a list.
-    pub(crate) counts: &'a [u32],
     limit: usize,
 }
 
@@ -84,7 +82,6 @@ pub fn propose_by_walks(
         initials,
         sequences,
         lengths,
-        counts: lengths.counts(),
         limit,
     };
     proposer.complete_earlier(earlier, fuel_of_search(lengths, room))
@@ -105,7 +102,6 @@ pub fn propose_by_search(
         initials,
         sequences,
         lengths,
-        counts: lengths.counts(),
         limit,
     };
     if fuel == 0 {
@@ -135,14 +131,15 @@ impl Proposer<'_> {
             made: beginning.counts.as_slice(),
             ends,
             checked,
-            trace_lengths: self.counts,
+            trace_lengths: self.lengths.counts(),
         }
     }
 
     /// All operations after these places of a schedule.
     fn given(&self, kept: &[u8]) -> Option<Given> {
         let beginning = self.beginning(kept)?;
-        Given::new(self.alloc, &self.part(&beginning, self.counts, u32::MAX))
+        let part = self.part(&beginning, self.lengths.counts(), u32::MAX);
+        Given::new(self.alloc, &part)
     }
 
     /// A schedule that goes on from the earlier one as far as that is legal, or else from less and less of it, at last from
@@ -211,7 +208,7 @@ impl Proposer<'_> {
     // The guess's orders aren't kept, since they may need its skew.
     fn complete_by_guess(&self, fuel: &mut u64) -> Option<Vec<u8>> {
         let nothing = self.beginning(&[])?;
-        let part = self.part(&nothing, self.counts, u32::MAX);
+        let part = self.part(&nothing, self.lengths.counts(), u32::MAX);
         let mut guess = self.guess(&part, 0..SKEWS + 1, SKEW_DIVISOR, fuel)?.guess;
         guess.clocks = Clocks::new(self.alloc, &guess.given.numbering)?;
         self.complete_by(guess, fuel)
@@ -275,7 +272,7 @@ impl Proposer<'_> {
         let end = walk.make_all();
         *fuel = fuel.saturating_sub(price_of(walk.order.visits, &walk.order));
         end?;
-        let mut schedule = copy(self.alloc, kept)?;
+        let mut schedule = kept.to_vec(self.alloc).ok()?;
         walk.add_to(&mut schedule)?;
         Some(schedule)
     }

@@ -1,5 +1,5 @@
 //! A schedule of long turns: one process makes many operations, then another one does.
-use crate::beginning::{Beginning, copy};
+use crate::beginning::Beginning;
 use crate::proposal::Proposer;
 use crate::turn_ops::{TurnOp, turn_ops_of};
 use scm_sequences::{Lengths, Op, Sequences};
@@ -57,7 +57,7 @@ impl Proposer<'_> {
             sequences: self.sequences,
             lengths: self.lengths,
             turn_ops: self.turn_ops()?,
-            procs: u32::try_from(self.counts.len()).ok()?,
+            procs: u32::try_from(self.lengths.procs()).ok()?,
             ops: u32::try_from(nothing.made.left(self.lengths)).ok()?,
             steps: fuel.saturating_mul(TURN_STEPS_OF_FUEL),
         };
@@ -68,7 +68,7 @@ impl Proposer<'_> {
 
     fn turn_ops(&self) -> Option<Vec<Vec<TurnOp>>> {
         let mut turn_ops = Vec::new(self.alloc);
-        for (p, count) in self.counts.iter().enumerate() {
+        for (p, count) in self.lengths.counts().iter().enumerate() {
             let ops = self.sequences.operations(p).get(..*count as usize)?;
             turn_ops
                 .push(turn_ops_of(self.alloc, ops, self.initials.len())?)
@@ -88,7 +88,7 @@ impl TurnSearch<'_> {
             let most = longest(&kept)?;
             let made = u32::try_from(most.schedule.len()).ok()?;
             if made == self.ops {
-                return copy(self.alloc, most.schedule.as_slice());
+                return most.schedule.to_vec(self.alloc).ok();
             }
             if number >= FIRST_TURNS && made < number.saturating_mul(LEAST_TURN) {
                 return None;
@@ -202,7 +202,7 @@ impl TurnSearch<'_> {
     // With a turn more, and all reads that can be made then.
     fn with(&mut self, turns: &Turns, turn: NextTurn) -> Option<Turns> {
         self.burn(turns.schedule.len() as u64)?;
-        let mut schedule = copy(self.alloc, turns.schedule.as_slice())?;
+        let mut schedule = turns.schedule.to_vec(self.alloc).ok()?;
         let mut made = turns.made.copy(self.alloc)?;
         for _ in 0..turn.len {
             self.make(&mut schedule, &mut made, turn.process)?;

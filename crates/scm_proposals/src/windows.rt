@@ -56,7 +56,7 @@ impl WindowProgress {
     // Where the next window ends.
     fn ends(&self, proposer: &Proposer) -> Option<Vec<u32>> {
         let mut ends = Vec::new(proposer.alloc);
-        for (made, count) in self.beginning.counts.iter().zip(proposer.counts) {
+        for (made, count) in self.beginning.counts.iter().zip(proposer.lengths.counts()) {
             let end = made.saturating_add(self.width).min(*count);
             ends.push(end).ok()?;
         }
@@ -76,9 +76,7 @@ impl WindowProgress {
         self.beginning
             .follow(proposer.sequences, proposer.lengths, places);
         let made = self.beginning.made().saturating_sub(before);
-        for place in places.get(..made)? {
-            self.schedule.push(*place).ok()?;
-        }
+        self.schedule.extend_from_slice(places.get(..made)?).ok()?;
         Some(made > 0)
     }
 }
@@ -86,9 +84,9 @@ impl WindowProgress {
 impl Proposer<'_> {
     /// Whether windows are made: the trace is long and has few processes.
     pub(crate) fn has_windows(&self) -> Option<bool> {
-        let longest = self.counts.iter().copied().max()?;
+        let longest = self.lengths.counts().iter().copied().max()?;
         let least = self.window_width()?.saturating_mul(LEAST_WINDOWS);
-        Some(self.counts.len() <= MOST_PROCESSES_OF_WINDOWS && longest >= least)
+        Some(self.lengths.procs() <= MOST_PROCESSES_OF_WINDOWS && longest >= least)
     }
 
     /// A schedule of a trace where windows are made, none of whose processes gets far ahead of the others.
@@ -115,7 +113,7 @@ impl Proposer<'_> {
     }
 
     fn window_width(&self) -> Option<u32> {
-        let procs = u32::try_from(self.counts.len()).ok()?;
+        let procs = u32::try_from(self.lengths.procs()).ok()?;
         let width = procs.saturating_mul(WIDTH_OF_PROCESS);
         Some(width.max(LEAST_WIDTH).min(MOST_WIDTH))
     }
@@ -123,7 +121,7 @@ impl Proposer<'_> {
     // Adds the schedule of the next window, as far as it is kept. Whether there is one.
     fn add_window(&self, progress: &mut WindowProgress, fuel: &mut u64) -> Option<bool> {
         let ends = progress.ends(self)?;
-        let is_last = ends.as_slice() == self.counts;
+        let is_last = ends.as_slice() == self.lengths.counts();
         let checked = if is_last {
             u32::MAX
         } else {
