@@ -1,27 +1,28 @@
 //! What is taken as so: by a case, or by a clause.
 use crate::claims::{Claim, Kind};
-use crate::drawn_steps::{Need, Why};
+use crate::drawn_steps::Need;
 use crate::search::Search;
+use scm_orders::Rule;
 
 impl Search {
     /// Takes a claim as so, of which nothing was known.
-    pub(crate) fn assert(&mut self, claim: Claim, why: Why, needs: &[Need]) -> Option<()> {
+    pub(crate) fn assert(&mut self, claim: Claim, rule: Rule, needs: &[Need]) -> Option<()> {
         match claim.kind {
             Kind::Before => {
-                self.draw(claim, why, needs)?;
+                self.draw(claim, rule, needs)?;
                 Some(())
             }
             Kind::Sees => {
-                let id = self.draw(claim, why, needs)?;
+                let id = self.draw(claim, rule, needs)?;
                 self.settle(claim, id)
             }
             Kind::SeesFirst => {
-                let id = self.add(claim, why, needs)?;
+                let id = self.add(claim, rule, needs)?;
                 self.settle(claim, id)?;
                 self.settle_contents(claim.to, id)
             }
             Kind::Unseen | Kind::UnseenFirst => {
-                let id = self.add(claim, why, needs)?;
+                let id = self.add(claim, rule, needs)?;
                 self.read_facts.rule_out(claim.to, id)?;
                 self.touch(claim.to)
             }
@@ -29,9 +30,9 @@ impl Search {
     }
 
     /// Adds a step that is no order.
-    pub(crate) fn add(&mut self, claim: Claim, why: Why, needs: &[Need]) -> Option<u32> {
+    pub(crate) fn add(&mut self, claim: Claim, rule: Rule, needs: &[Need]) -> Option<u32> {
         let level = self.trail.level();
-        self.steps.add(claim, why, level, needs)
+        self.steps.add(claim, rule, level, needs)
     }
 
     /// By this step it is known what a read sees.
@@ -62,7 +63,7 @@ impl Search {
         if truth == Some(false) && claim.kind != Kind::Before {
             return self.clash(k, claim, &needs);
         }
-        self.assert(claim, Why::Clause(k), &needs)
+        self.assert(claim, Rule::Lemma { end: k }, &needs)
     }
 
     // What shows that all of a clause but one claim is false, in the order in which its block supposes it.
@@ -79,9 +80,9 @@ impl Search {
     // What a read sees, or doesn't, contradicts the clause: so nothing is left for it to see.
     fn clash(&mut self, k: u32, claim: Claim, needs: &[Need]) -> Option<()> {
         let contrary = self.falsity(claim)?;
-        let id = self.add(claim, Why::Clause(k), needs)?;
+        let id = self.add(claim, Rule::Lemma { end: k }, needs)?;
         let nothing = Claim::before(claim.to, claim.to);
-        self.draw(nothing, Why::AfterAll, &[Need::Step(id), contrary])?;
+        self.draw(nothing, Rule::AfterAll, &[Need::Step(id), contrary])?;
         Some(())
     }
 }

@@ -1,12 +1,11 @@
 //! The search by cases: for a contradiction, or for what reads see in some schedule.
 use crate::claims::Claim;
 use crate::conflict::Conflict;
-use crate::drawn_steps::Why;
 use crate::gathering::gather;
 use crate::search::{Search, Sought};
 use crate::touching::Side;
 use crate::waiting::Next;
-use scm_orders::Derivation;
+use scm_orders::{Derivation, Rule};
 
 /// After how many contradictions the cases are chosen anew, at least.
 const UNIT: u64 = 30;
@@ -67,7 +66,7 @@ impl Search {
             let Some(claim) = self.choose()? else {
                 return Some(None);
             };
-            self.assert(claim, Why::Assumed, &[])?;
+            self.assert(claim, Rule::Assumed, &[])?;
         }
         None
     }

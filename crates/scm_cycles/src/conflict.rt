@@ -1,8 +1,9 @@
 //! Why suppositions contradict each other.
 use crate::claims::Claim;
-use crate::drawn_steps::{Need, Why};
+use crate::drawn_steps::Need;
 use crate::search::Search;
-use std::alloc::Global;
+use scm_orders::Rule;
+use std::mem;
 
 /// Which part of a list of rises a way is looked for in, mostly.
 const PART_OF_LIST: usize = 8;
@@ -18,36 +19,24 @@ pub(crate) struct Conflict {
     open: u32,
 }
 
-impl Conflict {
-    fn new(alloc: Global, contradiction: u32, level: u32) -> Option<Conflict> {
-        let count = contradiction.checked_add(1)?;
-        Some(Conflict {
-            contradiction,
-            level,
-            steps: Vec::new(alloc),
-            is_seen: vec![in alloc; false; count as usize].ok()?,
-            open: 0,
-        })
-    }
-
-    // Whether the step is seen for the first time.
-    fn see(&mut self, id: u32) -> Option<bool> {
-        let is_seen = self.is_seen.get_mut(id as usize)?;
-        let is_new = !*is_seen;
-        *is_seen = true;
-        Some(is_new)
-    }
-}
-
 impl Search {
     /// What contradicts itself by the step that closed a cycle.
     pub(crate) fn explain(&mut self, contradiction: u32) -> Option<Conflict> {
         let needs = self.contradiction_needs(contradiction)?;
         let mut level = 0;
         for need in &needs {
-            level = level.max(self.level_of(*need)?);
+            for id in &self.steps_of(*need)? {
+                level = level.max(self.steps.get(*id)?.level);
+            }
         }
-        let mut conflict = Conflict::new(self.alloc, contradiction, level)?;
+        let count = contradiction.checked_add(1)?;
+        let mut conflict = Conflict {
+            contradiction,
+            level,
+            steps: Vec::new(self.alloc),
+            is_seen: vec![in self.alloc; false; count as usize].ok()?,
+            open: 0,
+        };
         if level > 0 {
             self.add_needs_of(&mut conflict, &needs)?;
             self.resolve(&mut conflict)?;
@@ -55,24 +44,18 @@ impl Search {
         Some(conflict)
     }
 
-    // The last supposition that something needed goes by.
-    fn level_of(&self, need: Need) -> Option<u32> {
-        let mut level = 0;
-        for id in &self.steps_of(need)? {
-            level = level.max(self.steps.get(*id)?.level);
-        }
-        Some(level)
-    }
-
     // What the contradiction of a step that closed a cycle follows from. A step just before it that a clause gave is no
     // more than a part of it.
     fn contradiction_needs(&self, contradiction: u32) -> Option<Vec<Need>> {
         let mut needs = Vec::new(self.alloc);
-        for at in self.steps.needs(contradiction)? {
-            let need = self.steps.need(at)?;
-            match self.clashing(contradiction, need)? {
-                Some(id) => self.copy_needs(&mut needs, id)?,
-                None => needs.push(need).ok()?,
+        for need in self.steps.needs(contradiction)? {
+            if let Need::Step(id) = *need
+                && id.checked_add(1)? == contradiction
+                && matches!(self.steps.get(id)?.rule, Rule::Lemma { .. })
+            {
+                needs.extend_from_slice(self.steps.needs(id)?).ok()?;
+            } else {
+                needs.push(*need).ok()?;
             }
         }
         let Claim { from, to, .. } = self.steps.get(contradiction)?.claim;
@@ -81,22 +64,6 @@ impl Search {
             needs.push(Need::Order { from, to }).ok()?;
         }
         Some(needs)
-    }
-
-    fn clashing(&self, contradiction: u32, need: Need) -> Option<Option<u32>> {
-        let Need::Step(id) = need else {
-            return Some(None);
-        };
-        let is_part = id.checked_add(1)? == contradiction
-            && matches!(self.steps.get(id)?.why, Why::Clause(_));
-        Some(if is_part { Some(id) } else { None })
-    }
-
-    fn copy_needs(&self, needs: &mut Vec<Need>, id: u32) -> Option<()> {
-        for at in self.steps.needs(id)? {
-            needs.push(self.steps.need(at)?).ok()?;
-        }
-        Some(())
     }
 
     // Back to the first step of the level that all of the contradiction goes through.
@@ -112,7 +79,7 @@ impl Search {
             }
             conflict.open = conflict.open.checked_sub(1)?;
             let mut needs = Vec::new(self.alloc);
-            self.copy_needs(&mut needs, id)?;
+            needs.extend_from_slice(self.steps.needs(id)?).ok()?;
             self.add_needs_of(conflict, &needs)?;
         }
         None
@@ -132,7 +99,8 @@ impl Search {
 
     fn add_step(&mut self, conflict: &mut Conflict, id: u32) -> Option<()> {
         let step = self.steps.get(id)?;
-        if step.level == 0 || !conflict.see(id)? {
+        let is_seen = conflict.is_seen.get_mut(id as usize)?;
+        if step.level == 0 || mem::replace(is_seen, true) {
             return Some(());
         }
         self.choices.bump(step.claim)?;

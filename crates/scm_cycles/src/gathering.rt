@@ -1,7 +1,7 @@
 //! The derivation of what a contradiction needs, gathered back from it.
 use crate::claims::{Claim, Kind};
 use crate::conflict::Conflict;
-use crate::drawn_steps::{Need, Step, Why};
+use crate::drawn_steps::Need;
 use crate::lines::Lines;
 use crate::search::Search;
 use scm_orders::{Derivation, Fact, Line, Rule};
@@ -150,12 +150,11 @@ impl<'a> Gathering<'a> {
         if !*self.is_needed.get(id as usize)? {
             return Some(());
         }
-        if let Why::Clause(k) = self.search.steps.get(id)?.why {
-            *self.is_clause_needed.get_mut(k as usize)? = true;
+        if let Rule::Lemma { end } = self.search.steps.get(id)?.rule {
+            *self.is_clause_needed.get_mut(end as usize)? = true;
         }
-        for at in self.search.steps.needs(id)? {
-            let need = self.search.steps.need(at)?;
-            for id in &self.search.steps_of(need)? {
+        for need in self.search.steps.needs(id)? {
+            for id in &self.search.steps_of(*need)? {
                 self.need(*id)?;
             }
         }
@@ -188,11 +187,12 @@ impl<'a> Gathering<'a> {
 
     fn write_block(&mut self, k: u32) -> Option<()> {
         let block = self.search.clauses.block(k)?;
-        let first = self.lines.open_block()?;
+        let first = self.lines.len()?;
+        self.lines.block = Some(first);
         for line in &block.lines {
             self.copy(*line, line.hints_in(&block.hints), first)?;
         }
-        self.lines.close_block();
+        self.lines.block = None;
         let end = self.lines.len()?.checked_sub(1)?;
         *self.ends.get_mut(k as usize)? = Some(end);
         Some(())
@@ -209,21 +209,19 @@ impl<'a> Gathering<'a> {
             };
             hints.push(number).ok()?;
         }
-        let rule = match line.rule {
-            Rule::Lemma { end } => self.lemma(end)?,
-            rule => rule,
-        };
-        self.lines.add(line.fact, rule, &hints)?;
+        self.lines.add(line.fact, self.rule_of(line.rule)?, &hints)?;
         Some(())
     }
 
-    // By this clause: in a block its number stands for the end of its block.
-    fn lemma(&self, k: u32) -> Option<Rule> {
-        if self.conflict.level > 0 {
-            return Some(Rule::Lemma { end: k });
+    // The rule as it is written: the number of a clause stays within a block, else there is the end of its block.
+    fn rule_of(&self, rule: Rule) -> Option<Rule> {
+        match rule {
+            Rule::Lemma { end: k } if self.conflict.level == 0 => {
+                let end = (*self.ends.get(k as usize)?)?;
+                Some(Rule::Lemma { end })
+            }
+            rule => Some(rule),
         }
-        let end = (*self.ends.get(k as usize)?)?;
-        Some(Rule::Lemma { end })
     }
 
     fn write(&mut self, id: u32) -> Option<()> {
@@ -231,30 +229,19 @@ impl<'a> Gathering<'a> {
             return Some(());
         }
         let step = self.search.steps.get(id)?;
+        let is_lemma = matches!(step.rule, Rule::Lemma { .. });
         let mut hints = Vec::new(self.search.alloc);
-        for at in self.search.steps.needs(id)? {
-            let need = self.search.steps.need(at)?;
-            if let Some(line) = self.name(need)?
-                && (is_clause(step) || !hints.contains(&line))
+        for need in self.search.steps.needs(id)? {
+            if let Some(line) = self.name(*need)?
+                && (is_lemma || !hints.contains(&line))
             {
                 hints.push(line).ok()?;
             }
         }
-        let (fact, rule) = (self.fact_of(step.claim)?, self.rule_of(step.why)?);
+        let (fact, rule) = (self.fact_of(step.claim)?, self.rule_of(step.rule)?);
         let line = self.lines.add(fact, rule, &hints)?;
         *self.line_of.get_mut(id as usize)? = Some(line);
         Some(())
-    }
-
-    fn rule_of(&self, why: Why) -> Option<Rule> {
-        Some(match why {
-            Why::Source | Why::First => Rule::Source,
-            Why::AfterAll => Rule::AfterAll,
-            Why::BeforeAll => Rule::BeforeAll,
-            Why::AfterSource => Rule::AfterSource,
-            Why::Assumed => Rule::Assumed,
-            Why::Clause(k) => self.lemma(k)?,
-        })
     }
 
     fn fact_of(&self, claim: Claim) -> Option<Fact> {
@@ -348,8 +335,4 @@ impl<'a> Gathering<'a> {
         self.lines.add(fact, Rule::Joined, &hints)?;
         Some(())
     }
-}
-
-fn is_clause(step: Step) -> bool {
-    matches!(step.why, Why::Clause(_))
 }

@@ -14,7 +14,7 @@ type LineKey = (u32, u32, u32);
 pub(crate) struct Lines {
     pub(crate) derivation: Derivation,
     known: IndexMap<LineKey, u32>,
-    block: Option<u32>,
+    pub(crate) block: Option<u32>,
 }
 
 impl Lines {
@@ -34,16 +34,6 @@ impl Lines {
         u32::try_from(self.derivation.lines.len()).ok()
     }
 
-    /// The next line is the first one of a block.
-    pub(crate) fn open_block(&mut self) -> Option<u32> {
-        self.block = Some(self.len()?);
-        self.block
-    }
-
-    pub(crate) fn close_block(&mut self) {
-        self.block = None;
-    }
-
     /// Adds a line, and gives its number.
     pub(crate) fn add(&mut self, fact: Fact, rule: Rule, hints: &[u32]) -> Option<u32> {
         if self.derivation.lines.len() >= MOST_LINES {
@@ -51,9 +41,7 @@ impl Lines {
         }
         let number = self.len()?;
         let first = u32::try_from(self.derivation.hints.len()).ok()?;
-        for hint in hints {
-            self.derivation.hints.push(*hint).ok()?;
-        }
+        self.derivation.hints.extend_from_slice(hints).ok()?;
         let count = u32::try_from(hints.len()).ok()?;
         let line = Line {
             fact,

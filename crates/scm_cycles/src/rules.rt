@@ -1,11 +1,12 @@
 //! The rules by which orders are drawn.
 use crate::claims::{Claim, Kind};
-use crate::drawn_steps::{Need, Why};
+use crate::drawn_steps::Need;
 use crate::evidence::Goal;
 use crate::narrowing::Around;
 use crate::read_views::ReadView;
 use crate::search::Search;
 use crate::waiting::News;
+use scm_orders::Rule;
 
 /// How many times as much a visit burns of a read whose source is open as of one whose source is settled.
 const OPEN_VISIT: u32 = 3;
@@ -73,7 +74,7 @@ impl Search {
         match (left, view.is_first_left) {
             (0, _) => {
                 let claim = Claim::before(read, read);
-                self.draw_by(&view, claim, Why::AfterAll, Goal::Nothing)?;
+                self.draw_by(&view, claim, Rule::AfterAll, Goal::Nothing)?;
                 return Some(());
             }
             (1, false) => return self.settle_last(&view),
@@ -84,16 +85,16 @@ impl Search {
     }
 
     // Draws an order by all that the read may see.
-    fn draw_by(&mut self, view: &ReadView, claim: Claim, why: Why, goal: Goal) -> Option<u32> {
+    fn draw_by(&mut self, view: &ReadView, claim: Claim, rule: Rule, goal: Goal) -> Option<u32> {
         let needs = self.needs(view, goal)?;
-        self.draw(claim, why, &needs)
+        self.draw(claim, rule, &needs)
     }
 
     // The read sees the one write that is left.
     fn settle_last(&mut self, view: &ReadView) -> Option<()> {
         let (write, _) = view.shares.iter().filter_map(|share| share.left).next()?;
         let claim = Claim::sees(write, view.read);
-        let id = self.draw_by(view, claim, Why::Source, Goal::Nothing)?;
+        let id = self.draw_by(view, claim, Rule::Source, Goal::Nothing)?;
         self.settle(claim, id)
     }
 
@@ -106,7 +107,7 @@ impl Search {
         }
         let needs = self.needs(view, Goal::Nothing)?;
         let claim = Claim::sees_first(view.read);
-        let id = self.add(claim, Why::First, &needs)?;
+        let id = self.add(claim, Rule::Source, &needs)?;
         if self.waiting.is_noted() {
             self.settle(claim, id)?;
         }
@@ -131,7 +132,7 @@ impl Search {
         if count > self.before(view.read, process)? {
             let from = self.given.numbering.number(process, count.checked_sub(1)?)?;
             let claim = Claim::before(from, view.read);
-            self.draw_by(view, claim, Why::AfterAll, Goal::After(from))?;
+            self.draw_by(view, claim, Rule::AfterAll, Goal::After(from))?;
         }
         Some(())
     }
@@ -142,7 +143,7 @@ impl Search {
             && !self.is_before(view.read, to)?
         {
             let claim = Claim::before(view.read, to);
-            self.draw_by(view, claim, Why::BeforeAll, Goal::Before(to))?;
+            self.draw_by(view, claim, Rule::BeforeAll, Goal::Before(to))?;
         }
         Some(())
     }
@@ -181,7 +182,7 @@ impl Search {
                 && !self.is_before(read, to)?
             {
                 let claim = Claim::before(read, to);
-                self.draw(claim, Why::BeforeAll, &[Need::Step(source)])?;
+                self.draw(claim, Rule::BeforeAll, &[Need::Step(source)])?;
             }
         }
         Some(())
@@ -214,7 +215,7 @@ impl Search {
         }
         let from = self.last_write(process, cell, read)?;
         let needs = [Need::Step(seen.step), Need::Order { from, to: read }];
-        self.draw(Claim::before(from, write), Why::AfterSource, &needs)?;
+        self.draw(Claim::before(from, write), Rule::AfterSource, &needs)?;
         Some(())
     }
 
@@ -233,7 +234,7 @@ impl Search {
         }
         let to = self.write_from(read, cell, process, place)?;
         let needs = [Need::Step(seen.step), Need::Order { from: write, to }];
-        self.draw(Claim::before(read, to), Why::BeforeAll, &needs)?;
+        self.draw(Claim::before(read, to), Rule::BeforeAll, &needs)?;
         Some(())
     }
 

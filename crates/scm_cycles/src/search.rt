@@ -5,13 +5,13 @@ use crate::cases::Restarts;
 use crate::choices::Choices;
 use crate::claims::Claim;
 use crate::clauses::Clauses;
-use crate::drawn_steps::{DrawnSteps, Need, Why};
+use crate::drawn_steps::{DrawnSteps, Need};
 use crate::read_facts::ReadFacts;
 use crate::rises::Rises;
 use crate::trail::Trail;
 use crate::waiting::Waiting;
 use scm_clocks::{Clocks, Flags, Given, is_covered};
-use scm_orders::Place;
+use scm_orders::{Place, Rule};
 use std::alloc::Global;
 
 /// For how many operations and processes, multiplied, there are clocks at most: larger traces aren't looked at.
@@ -142,12 +142,13 @@ impl Search {
         let (process, at) = self.given.numbering.spot(from)?;
         let mut x = to;
         for _ in 0..=self.steps.len()? {
-            if self.is_from(process, at, x, from != x || !path.is_empty())? {
+            let (owner, place) = self.given.numbering.spot(x)?;
+            if owner == process && place >= at && (from != x || !path.is_empty()) {
                 path.reverse();
                 return Some(path);
             }
-            let spot = self.given.numbering.spot(x)?;
-            let id = self.rises.first(spot, process, at.checked_add(1)?)?;
+            let count = at.checked_add(1)?;
+            let id = self.rises.first((owner, place), process, count)?;
             path.push(id).ok()?;
             x = match self.supposed {
                 Some(supposed) if supposed == id => from,
@@ -159,26 +160,19 @@ impl Search {
 
     /// The steps that show what is needed, with the orders of processes.
     pub(crate) fn steps_of(&self, need: Need) -> Option<Vec<u32>> {
-        let (write, by, read) = match need {
+        match need {
             Need::Step(id) => {
                 let mut steps = Vec::new(self.alloc);
                 steps.push(id).ok()?;
-                return Some(steps);
+                Some(steps)
             }
-            Need::Order { from, to } | Need::Hiding { from, to } => return self.path(from, to),
-            Need::Hidden { write, by, read } => (write, by, read),
-        };
-        let mut steps = self.path(write, by)?;
-        for id in &self.path(by, read)? {
-            steps.push(*id).ok()?;
+            Need::Order { from, to } | Need::Hiding { from, to } => self.path(from, to),
+            Need::Hidden { write, by, read } => {
+                let mut steps = self.path(write, by)?;
+                steps.extend_from_slice(&self.path(by, read)?).ok()?;
+                Some(steps)
+            }
         }
-        Some(steps)
-    }
-
-    // Whether `x` stands at this place of this process, where that counts, or later there.
-    fn is_from(&self, process: u32, at: u32, x: u32, counts: bool) -> Option<bool> {
-        let (owner, place) = self.given.numbering.spot(x)?;
-        Some(owner == process && place >= at && counts)
     }
 
     pub(crate) fn burn(&mut self, amount: u32) -> Option<()> {
@@ -192,9 +186,9 @@ impl Search {
     }
 
     /// Draws an order, with all that it brings to the clocks. Gives its number.
-    pub(crate) fn draw(&mut self, claim: Claim, why: Why, needs: &[Need]) -> Option<u32> {
+    pub(crate) fn draw(&mut self, claim: Claim, rule: Rule, needs: &[Need]) -> Option<u32> {
         let Claim { from, to, .. } = claim;
-        let id = self.steps.add(claim, why, self.trail.level(), needs)?;
+        let id = self.add(claim, rule, needs)?;
         if from == to || self.is_before(to, from)? {
             self.contradiction = Some(id);
             return Some(id);
@@ -232,10 +226,10 @@ impl Search {
             let Some(id) = leaving else {
                 break;
             };
-            let to = self.steps.get(id)?.claim.to;
+            let step = self.steps.get(id)?;
             self.burn(1)?;
-            self.absorb(to, x, id)?;
-            leaving = self.steps.older(id);
+            self.absorb(step.claim.to, x, id)?;
+            leaving = step.older;
         }
         Some(())
     }
@@ -271,17 +265,12 @@ impl Search {
             if self.before(x, process)? >= count {
                 break;
             }
-            self.raise_clock(x, process, count)?;
-        }
-        Some(())
-    }
-
-    fn raise_clock(&mut self, x: u32, process: u32, count: u32) -> Option<()> {
-        self.burn(1)?;
-        self.clocks.set(x, process, count)?;
-        self.waiting.raised(x, process)?;
-        if self.steps.newest(x).is_some() {
-            self.flags.add(x)?;
+            self.burn(1)?;
+            self.clocks.set(x, process, count)?;
+            self.waiting.raised(x, process)?;
+            if self.steps.newest(x).is_some() {
+                self.flags.add(x)?;
+            }
         }
         Some(())
     }

@@ -1,8 +1,8 @@
 //! Orders that are supposed before anything is drawn.
 use crate::claims::{Claim, Kind};
-use crate::drawn_steps::Why;
 use crate::search::Search;
 use scm_clocks::Clocks;
+use scm_orders::Rule;
 
 impl Search {
     /// Supposes all orders that these clocks tell, by one step.
@@ -12,7 +12,7 @@ impl Search {
             from: 0,
             to: 0,
         };
-        let id = self.add(nothing, Why::Assumed, &[])?;
+        let id = self.add(nothing, Rule::Assumed, &[])?;
         self.supposed = Some(id);
         self.clocks = clocks;
         for x in 0..self.ops {

@@ -59,11 +59,11 @@ impl Search {
                 break;
             };
             count = count.saturating_add(1);
-            let claim = self.steps.get(id)?.claim;
-            if claim.kind == Kind::Sees {
-                self.waiting.source_lowered(claim.to)?;
+            let step = self.steps.get(id)?;
+            if step.claim.kind == Kind::Sees {
+                self.waiting.source_lowered(step.claim.to)?;
             }
-            leaving = self.steps.older(id);
+            leaving = step.older;
         }
         self.burn_for(count)
     }

@@ -56,21 +56,16 @@ impl Search {
         self.waiting.clear();
         for _ in level..self.trail.level() {
             let sizes = self.trail.sizes.pop()?;
-            self.undo(sizes)?;
-        }
-        Some(())
-    }
-
-    fn undo(&mut self, sizes: Sizes) -> Option<()> {
-        self.clocks.take_back(sizes.changes)?;
-        self.afters.take_back(sizes.afters)?;
-        self.rises.take_back(sizes.rises)?;
-        self.candidates.take_back(sizes.candidates)?;
-        for _ in sizes.steps..self.steps.len()? {
-            let step = self.steps.take_back()?;
-            let read = step.claim.to;
-            let cell = self.given.numbering.cell(read)?;
-            self.read_facts.take_back(read, cell, self.steps.len()?)?;
+            self.clocks.take_back(sizes.changes)?;
+            self.afters.take_back(sizes.afters)?;
+            self.rises.take_back(sizes.rises)?;
+            self.candidates.take_back(sizes.candidates)?;
+            for _ in sizes.steps..self.steps.len()? {
+                let step = self.steps.take_back()?;
+                let read = step.claim.to;
+                let cell = self.given.numbering.cell(read)?;
+                self.read_facts.take_back(read, cell, self.steps.len()?)?;
+            }
         }
         Some(())
     }
