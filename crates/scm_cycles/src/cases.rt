@@ -4,7 +4,6 @@ use crate::conflict::Conflict;
 use crate::gathering::gather;
 use crate::search::{Search, Sought};
 use crate::touching::Side;
-use crate::waiting::Next;
 use scm_orders::{Derivation, Rule};
 
 /// After how many contradictions the cases are chosen anew, at least.
@@ -85,14 +84,14 @@ impl Search {
             if self.contradiction.is_some() {
                 return Some(());
             }
-            match self.waiting.next() {
-                Some(Next::Raised(x)) => {
-                    self.burn(1)?;
-                    self.touch_around(x, Side::Before)?;
-                    self.review_all(x)?;
-                }
-                Some(Next::Read(read)) => self.look_again(read)?,
-                None => return Some(()),
+            if let Some(x) = self.waiting.raised.next() {
+                self.burn(1)?;
+                self.touch_around(x, Side::Before)?;
+                self.review_all(x)?;
+            } else if let Some(read) = self.waiting.next_read() {
+                self.look_again(read)?;
+            } else {
+                return Some(());
             }
         }
         None

@@ -42,20 +42,14 @@ impl Claim {
 
     /// What holds where it doesn't.
     pub(crate) fn negation(self) -> Claim {
-        let Claim { kind, from, to } = self;
-        match kind {
-            Kind::Before => Claim::before(to, from),
-            Kind::Sees => Claim {
-                kind: Kind::Unseen,
-                ..self
-            },
-            Kind::SeesFirst => Claim {
-                kind: Kind::UnseenFirst,
-                ..self
-            },
-            Kind::Unseen => Claim::sees(from, to),
-            Kind::UnseenFirst => Claim::sees_first(to),
-        }
+        let kind = match self.kind {
+            Kind::Before => return Claim::before(self.to, self.from),
+            Kind::Sees => Kind::Unseen,
+            Kind::SeesFirst => Kind::UnseenFirst,
+            Kind::Unseen => Kind::Sees,
+            Kind::UnseenFirst => Kind::SeesFirst,
+        };
+        Claim { kind, ..self }
     }
 
     /// Whether it puts the one operation before the other.

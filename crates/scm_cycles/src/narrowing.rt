@@ -42,7 +42,12 @@ impl Search {
         if old.len() == 0 {
             return Some(());
         }
-        let new = self.narrowed(old, read, value, process, hidden)?;
+        let start = self.given.numbering.number(process, 0)?;
+        let first = start.checked_add(hidden)?;
+        let end = start.checked_add(self.after(read, process)?)?;
+        let low = self.first_left(old, read, value, first)?;
+        let high = self.end_left(Bounds { low, ..old }, read, value, end)?;
+        let new = Bounds::new(self.given.writers.of(value)?, low, high)?;
         if new != old {
             self.candidates.set(read, process, new)?;
         }
@@ -62,22 +67,6 @@ impl Search {
             }
         }
         Some(hidden)
-    }
-
-    fn narrowed(
-        &self,
-        bounds: Bounds,
-        read: u32,
-        value: u32,
-        process: u32,
-        hidden: u32,
-    ) -> Option<Bounds> {
-        let start = self.given.numbering.number(process, 0)?;
-        let first = start.checked_add(hidden)?;
-        let end = start.checked_add(self.after(read, process)?)?;
-        let low = self.first_left(bounds, read, value, first)?;
-        let high = self.end_left(Bounds { low, ..bounds }, read, value, end)?;
-        Bounds::new(self.given.writers.of(value)?, low, high)
     }
 
     // Where the first write from `first` on stands that no step rules out.

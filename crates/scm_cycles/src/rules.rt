@@ -11,15 +11,6 @@ use scm_orders::Rule;
 /// How many times as much a visit burns of a read whose source is open as of one whose source is settled.
 const OPEN_VISIT: u32 = 3;
 
-/// A read of a cell that sees a write, by a step.
-#[derive(Clone, Copy)]
-struct SeenWrite {
-    write: u32,
-    read: u32,
-    cell: u32,
-    step: u32,
-}
-
 impl Search {
     /// Draws all that follows, round by round, until a cycle is closed or nothing is new. The step that closed it, if one did.
     pub(crate) fn run(&mut self) -> Option<Option<u32>> {
@@ -161,17 +152,19 @@ impl Search {
 
     // Draws what follows from what is seen.
     fn follow_source(&mut self, read: u32, cell: u32, step: u32, news: News) -> Option<()> {
-        let claim = self.steps.get(step)?.claim;
-        if claim.kind == Kind::SeesFirst {
+        let seen = self.steps.get(step)?.claim;
+        if seen.kind == Kind::SeesFirst {
             return self.follow_first(read, cell, step);
         }
-        let seen = SeenWrite {
-            write: claim.from,
-            read,
-            cell,
-            step,
-        };
-        self.follow_write(seen, news)
+        for process in 0..self.procs {
+            if self.contradiction.is_none() && news.has(process) {
+                self.draw_after_source(seen, cell, step, process)?;
+            }
+            if self.contradiction.is_none() && news.is_after_source {
+                self.draw_before_next(seen, cell, step, process)?;
+            }
+        }
+        Some(())
     }
 
     // Draws what follows from first contents that are seen.
@@ -188,64 +181,36 @@ impl Search {
         Some(())
     }
 
-    // Draws what follows from a write that is seen.
-    fn follow_write(&mut self, seen: SeenWrite, news: News) -> Option<()> {
-        for process in 0..self.procs {
-            if self.contradiction.is_none() && news.has(process) {
-                self.draw_after_source(seen, process)?;
-            }
-            if self.contradiction.is_none() && news.is_after_source() {
-                self.draw_before_next(seen, process)?;
-            }
-        }
-        Some(())
-    }
-
     // Another write of the cell that comes before the read comes before its source.
-    fn draw_after_source(&mut self, seen: SeenWrite, process: u32) -> Option<()> {
-        let SeenWrite {
-            write,
-            read,
-            cell,
-            ..
-        } = seen;
+    fn draw_after_source(&mut self, seen: Claim, cell: u32, step: u32, process: u32) -> Option<()> {
+        let (write, read) = (seen.from, seen.to);
         let (known, count) = (self.up_to(write, process)?, self.before(read, process)?);
-        if count <= known || !self.is_written(process, cell, known, count)? {
+        if !self.is_written(process, cell, known, count)? {
             return Some(());
         }
         let from = self.last_write(process, cell, read)?;
-        let needs = [Need::Step(seen.step), Need::Order { from, to: read }];
+        let needs = [Need::Step(step), Need::Order { from, to: read }];
         self.draw(Claim::before(from, write), Rule::AfterSource, &needs)?;
         Some(())
     }
 
     // The read comes before another write of the cell that comes after its source.
-    fn draw_before_next(&mut self, seen: SeenWrite, process: u32) -> Option<()> {
-        let SeenWrite {
-            write,
-            read,
-            cell,
-            ..
-        } = seen;
+    fn draw_before_next(&mut self, seen: Claim, cell: u32, step: u32, process: u32) -> Option<()> {
+        let (write, read) = (seen.from, seen.to);
         let (place, known) = (self.after(write, process)?, self.after(read, process)?);
         let (owner, _) = self.given.numbering.spot(read)?;
         if owner == process || !self.is_written(process, cell, place, known)? {
             return Some(());
         }
         let to = self.write_from(read, cell, process, place)?;
-        let needs = [Need::Step(seen.step), Need::Order { from: write, to }];
+        let needs = [Need::Step(step), Need::Order { from: write, to }];
         self.draw(Claim::before(read, to), Rule::BeforeAll, &needs)?;
         Some(())
     }
 
     /// Whether a process writes the cell between two places.
     pub(crate) fn is_written(&self, process: u32, cell: u32, from: u32, to: u32) -> Option<bool> {
-        if from >= to {
-            return Some(false);
-        }
-        Some(
-            self.given.writes.count(process, cell, from)?
-                < self.given.writes.count(process, cell, to)?,
-        )
+        let writes = &self.given.writes;
+        Some(from < to && writes.count(process, cell, from)? < writes.count(process, cell, to)?)
     }
 }

@@ -21,7 +21,12 @@ pub fn find_sources(alloc: Global, given: Given, clocks: Clocks, fuel: &mut u64)
     let settled = search.settle_after(clocks);
     *fuel = search.fuel;
     settled?;
-    search.guess()
+    let sources = search.sources()?;
+    Some(Guess {
+        given: search.given,
+        sources,
+        clocks: search.clocks,
+    })
 }
 
 impl Search {
@@ -32,15 +37,6 @@ impl Search {
             Some(_) => None,
             None => Some(()),
         }
-    }
-
-    fn guess(self) -> Option<Guess> {
-        let sources = self.sources()?;
-        Some(Guess {
-            given: self.given,
-            sources,
-            clocks: self.clocks,
-        })
     }
 
     fn sources(&self) -> Option<Vec<Option<u32>>> {

@@ -7,7 +7,7 @@ use std::alloc::Global;
 #[derive(Drop)]
 pub(crate) struct Waiting {
     is_noted: bool,
-    raised: Flags,
+    pub(crate) raised: Flags,
     settled: Flags,
     open: Flags,
     news: Vec<News>,
@@ -18,7 +18,7 @@ pub(crate) struct Waiting {
 #[derive(Clone, Copy)]
 pub(crate) struct News {
     processes: u32,
-    is_after_source: bool,
+    pub(crate) is_after_source: bool,
 }
 
 impl News {
@@ -37,10 +37,6 @@ impl News {
         self.processes.checked_shr(process).unwrap_or(0) & 1 == 1
     }
 
-    pub(crate) fn is_after_source(self) -> bool {
-        self.is_after_source
-    }
-
     /// Of how many processes something is new.
     pub(crate) fn count(self, procs: u32) -> u32 {
         if self.is_after_source {
@@ -49,13 +45,6 @@ impl News {
             self.processes.count_ones().min(procs)
         }
     }
-}
-
-/// What comes next.
-#[derive(Clone, Copy)]
-pub(crate) enum Next {
-    Raised(u32),
-    Read(u32),
 }
 
 impl Waiting {
@@ -120,15 +109,12 @@ impl Waiting {
         }
     }
 
-    pub(crate) fn next(&mut self) -> Option<Next> {
-        if let Some(x) = self.raised.next() {
-            return Some(Next::Raised(x));
-        }
-        let read = match self.settled.next() {
+    /// The read that is looked at next.
+    pub(crate) fn next_read(&mut self) -> Option<u32> {
+        match self.settled.next() {
             Some(read) => Some(read),
             None => self.open.next(),
-        };
-        read.map(|read| Next::Read(read))
+        }
     }
 
     pub(crate) fn clear(&mut self) {
