@@ -209,7 +209,8 @@ impl<'a> Gathering<'a> {
             };
             hints.push(number).ok()?;
         }
-        self.lines.add(line.fact, self.rule_of(line.rule)?, &hints)?;
+        let rule = self.rule_of(line.rule)?;
+        self.lines.add(line.fact, rule, &hints)?;
         Some(())
     }
 
