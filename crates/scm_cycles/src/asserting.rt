@@ -29,7 +29,7 @@ impl Search {
         }
     }
 
-    /// Adds a step that is no order.
+    /// Adds a step, and gives its number: nothing is drawn from it yet.
     pub(crate) fn add(&mut self, claim: Claim, rule: Rule, needs: &[Need]) -> Option<u32> {
         let level = self.trail.level();
         self.steps.add(claim, rule, level, needs)

@@ -214,7 +214,8 @@ impl<'a> Gathering<'a> {
         Some(())
     }
 
-    // The rule as it is written: the number of a clause stays within a block, else there is the end of its block.
+    // The rule as it is written. A lemma names its clause in what is kept as a block, and the end of that clause's block in what is
+    // handed out.
     fn rule_of(&self, rule: Rule) -> Option<Rule> {
         match rule {
             Rule::Lemma { end: k } if self.conflict.level == 0 => {

@@ -14,6 +14,7 @@ type LineKey = (u32, u32, u32);
 pub(crate) struct Lines {
     pub(crate) derivation: Derivation,
     known: IndexMap<LineKey, u32>,
+    /// Set where a block begins, `None` again where it ends.
     pub(crate) block: Option<u32>,
 }
 

@@ -181,7 +181,7 @@ impl Search {
         Some(())
     }
 
-    // Another write of the cell that comes before the read comes before its source.
+    // Another write of the cell that comes before the read comes before its source. `seen` is what the step tells.
     fn draw_after_source(&mut self, seen: Claim, cell: u32, step: u32, process: u32) -> Option<()> {
         let (write, read) = (seen.from, seen.to);
         let (known, count) = (self.up_to(write, process)?, self.before(read, process)?);

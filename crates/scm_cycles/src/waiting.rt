@@ -2,11 +2,12 @@
 use scm_clocks::Flags;
 use std::alloc::Global;
 
-/// Operations whose clocks rose, reads that see something known, and other reads, in the order in which they are looked at; and
+/// Operations and reads in the order in which they are looked at: raised ones, reads that see something known, other reads; and
 /// what is new of each operation since it was looked at. Nothing is noted before it is said that cases are tried.
 #[derive(Drop)]
 pub(crate) struct Waiting {
     is_noted: bool,
+    /// Operations whose clocks rose.
     pub(crate) raised: Flags,
     settled: Flags,
     open: Flags,

@@ -48,7 +48,7 @@ impl Beginning {
         }
     }
 
-    /// Makes the next operation of process `p`, where it is there and legal.
+    /// Makes the next operation of process `p`, where it is there, within the lengths, and legal.
     pub(crate) fn make(
         &mut self,
         sequences: &Sequences,

@@ -26,7 +26,7 @@ pub fn is_near_end(
     false
 }
 
-/// Makes the next operation of the first process whose one is there and legal. Whether there is one.
+/// Makes the next operation of the first process that has a legal one. Whether there is such a process.
 fn make_first(
     counts: &mut [u32],
     contents: &mut [Option<u64>],

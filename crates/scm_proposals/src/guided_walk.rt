@@ -93,7 +93,7 @@ impl GuidedWalk {
         self.memory.get(cell as usize).copied()
     }
 
-    // Puts what the cell of `x` holds from now on.
+    // From now on the cell of `x` holds this.
     fn set_content(&mut self, x: u32, content: Content) -> Option<()> {
         let cell = self.order.facts.given.numbering.cell(x)?;
         *self.memory.get_mut(cell as usize)? = content;
@@ -116,7 +116,7 @@ impl GuidedWalk {
                 None => {
                     let decision = self.decisions.pop()?;
                     self.take_back(decision)?;
-                },
+                }
             }
         }
         None

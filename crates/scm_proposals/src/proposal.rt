@@ -13,8 +13,8 @@ use scm_sequences::{Lengths, Sequences};
 use std::alloc::Global;
 
 /// How many visits a walk makes at least where it makes no more operations than before, and for how many situations of the limit
-/// it makes one more if all sources are known: one costs about as much as a situation that is searched. Where sources are open a
-/// search finds more with the fuel.
+/// it makes one more if all sources are known: one costs about as much as a situation that is searched. If not, there are no more,
+/// since a search finds more with the fuel.
 const SITUATIONS_OF_PATIENCE: usize = 8;
 
 const LEAST_PATIENCE: u64 = 10_000;

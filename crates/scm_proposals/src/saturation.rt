@@ -46,7 +46,7 @@ impl Order {
         Some(())
     }
 
-    // What comes before `x` has itself something before it; that of its process (`before`, if that isn't made) was absorbed.
+    // What comes before `x` has itself something before it. Of its own process `before` was absorbed, where that isn't made.
     fn follow_clock(&mut self, x: u32, before: Option<u32>) -> Option<bool> {
         let mut is_new = false;
         for process in 0..self.facts.procs {

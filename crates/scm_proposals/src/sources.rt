@@ -24,7 +24,7 @@ fn single_source(given: &mut Given, x: u32, value: u32) -> Option<Option<u32>> {
         [] if first.is_none_or(|first| first == value) => {
             given.values.set_first(cell, value)?;
             Some(Some(given.numbering.len()?.checked_add(cell)?))
-        },
+        }
         [] => None,
         [source] if first != Some(value) => Some(Some(*source)),
         _ => Some(None),
