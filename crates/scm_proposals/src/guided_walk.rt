@@ -188,13 +188,15 @@ impl GuidedWalk {
         if let Some(source) = self.order.facts.source(x) {
             self.readers.lower(source)?;
         }
-        let values = &self.order.facts.given.values;
-        if self.order.facts.is_harmless(x) {
-            let value = values.found(x).or(before.value);
-            return self.set_content(x, Content { value, ..before });
-        }
-        let value = values.written(x);
-        self.set_content(x, Content { value, writer: x })
+        let content = if self.order.facts.is_harmless(x) {
+            let found = self.order.facts.given.values.found(x);
+            let value = found.or(before.value);
+            Content { value, ..before }
+        } else {
+            let value = self.order.facts.given.values.written(x);
+            Content { value, writer: x }
+        };
+        self.set_content(x, content)
     }
 
     fn unmake(&mut self) -> Option<()> {
