@@ -1,5 +1,5 @@
 //! What case is tried next.
-use crate::claims::{Claim, Kind};
+use crate::claims::Claim;
 use std::alloc::Global;
 
 /// How much a contradiction adds to what it goes through, at first.
@@ -40,10 +40,7 @@ impl Choices {
     /// A contradiction goes through this claim: its operations are chosen sooner.
     pub(crate) fn bump(&mut self, claim: Claim) -> Option<()> {
         self.raise(claim.to)?;
-        self.raise(match claim.kind {
-            Kind::Before => claim.from,
-            _ => claim.to,
-        })
+        self.raise(claim.watched())
     }
 
     fn raise(&mut self, x: u32) -> Option<()> {

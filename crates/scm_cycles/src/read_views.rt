@@ -1,5 +1,4 @@
 //! What a read may see, by what is known of the writes of the value that it found.
-use crate::candidates::Bounds;
 use crate::claims::Claim;
 use crate::search::Search;
 
@@ -13,38 +12,9 @@ pub(crate) struct Share {
     pub(crate) unseen: [(u32, u32); 2],
 }
 
-/// Where writes of one process stand in the list of a value: those from `begin` to `end`, of which those below `low` are
-/// hidden, and those from `high` on come after the read.
-#[derive(Clone, Copy)]
-struct Ranges {
-    begin: u32,
-    low: u32,
-    high: u32,
-    end: u32,
-}
-
 /// What stands in a list from one place on, before another.
 pub(crate) fn part(list: &[u32], from: u32, to: u32) -> &[u32] {
-    match list.get(from as usize..to as usize) {
-        Some(part) => part,
-        None => &[],
-    }
-}
-
-impl Share {
-    // Of the writes within these ranges, of which those within the bounds are left.
-    fn of(list: &[u32], ranges: Ranges, bounds: Bounds) -> Share {
-        let (from, to) = match bounds.ends {
-            Some(_) => (bounds.low, bounds.high),
-            None => (ranges.high, ranges.high),
-        };
-        Share {
-            hidden: part(list, ranges.begin, ranges.low).last().copied(),
-            left: bounds.ends,
-            later: part(list, ranges.high, ranges.end).first().copied(),
-            unseen: [(ranges.low, from), (to, ranges.high)],
-        }
-    }
+    list.get(from as usize..to as usize).unwrap_or(&[])
 }
 
 /// The read, the last write of each process to its cell before it, the shares of the processes that wrote the value, and
@@ -127,18 +97,28 @@ impl Search {
             let count = self.given.numbering.count(process)?;
             (self.after(view.read, process)?, count)
         };
+        // Where its writes stand in the list of the value: from `begin` to `end`. Those below `low` are hidden, those from
+        // `high` on come after the read.
         let writers = &self.given.writers;
-        let ranges = Ranges {
-            begin: writers.count(view.value, start)?,
-            low: writers.count(view.value, start.checked_add(hidden)?)?,
-            high: writers.count(view.value, start.checked_add(later)?)?,
-            end: writers.count(view.value, start.checked_add(end)?)?,
-        };
-        if ranges.begin < ranges.end {
-            let bounds = self.candidates.get(view.read, process)?;
-            let share = Share::of(writers.of(view.value)?, ranges, bounds);
-            view.shares.push(share).ok()?;
+        let begin = writers.count(view.value, start)?;
+        let low = writers.count(view.value, start.checked_add(hidden)?)?;
+        let high = writers.count(view.value, start.checked_add(later)?)?;
+        let end = writers.count(view.value, start.checked_add(end)?)?;
+        if begin >= end {
+            return Some(());
         }
-        Some(())
+        let bounds = self.candidates.get(view.read, process)?;
+        let (from, to) = match bounds.ends {
+            Some(_) => (bounds.low, bounds.high),
+            None => (high, high),
+        };
+        let list = writers.of(view.value)?;
+        let share = Share {
+            hidden: part(list, begin, low).last().copied(),
+            left: bounds.ends,
+            later: part(list, high, end).first().copied(),
+            unseen: [(low, from), (to, high)],
+        };
+        view.shares.push(share).ok()
     }
 }
