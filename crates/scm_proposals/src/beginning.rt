@@ -3,11 +3,10 @@ use scm_sequences::{Lengths, Sequences};
 use std::alloc::Global;
 
 /// What the first places of a schedule make: how many operations of each process, and what the cells hold then.
-#[derive(Drop)]
+#[derive(Clone, PartialEq, Eq, Drop)]
 pub struct Beginning {
     pub(crate) counts: Vec<u32>,
     pub(crate) contents: Vec<Option<u64>>,
-    len: usize,
 }
 
 impl Beginning {
@@ -16,27 +15,12 @@ impl Beginning {
         Some(Beginning {
             counts: vec![in alloc; 0; procs].ok()?,
             contents: initials.to_vec(alloc).ok()?,
-            len: 0,
-        })
-    }
-
-    pub(crate) fn copy(&self, alloc: Global) -> Option<Beginning> {
-        Some(Beginning {
-            counts: self.counts.to_vec(alloc).ok()?,
-            contents: self.contents.to_vec(alloc).ok()?,
-            len: self.len,
         })
     }
 
     /// How many numbers it has.
     pub(crate) fn size(&self) -> u64 {
         (self.counts.len() as u64).saturating_add(self.contents.len() as u64)
-    }
-
-    /// Whether the other one makes the same, in any order.
-    pub(crate) fn is_same(&self, other: &Beginning) -> bool {
-        self.counts.as_slice() == other.counts.as_slice()
-            && self.contents.as_slice() == other.contents.as_slice()
     }
 
     /// Makes the operations at these places as long as each is there, within the lengths, and legal.
@@ -55,24 +39,26 @@ impl Beginning {
         lengths: &Lengths,
         p: usize,
     ) -> Option<()> {
-        make_next(&mut self.counts, &mut self.contents, sequences, lengths, p)?;
-        self.len = self.len.checked_add(1)?;
-        Some(())
+        make_next(&mut self.counts, &mut self.contents, sequences, lengths, p)
     }
 
     /// How many operations were made.
     pub fn made(&self) -> usize {
-        self.len
+        sum_of(self.counts.as_slice())
     }
 
     /// How many operations within the lengths are left.
     pub fn left(&self, lengths: &Lengths) -> usize {
-        let mut left: usize = 0;
-        for count in lengths.counts() {
-            left = left.saturating_add(*count as usize);
-        }
-        left.saturating_sub(self.len)
+        sum_of(lengths.counts()).saturating_sub(self.made())
     }
+}
+
+fn sum_of(counts: &[u32]) -> usize {
+    let mut sum: usize = 0;
+    for count in counts {
+        sum = sum.saturating_add(*count as usize);
+    }
+    sum
 }
 
 /// Makes the next operation of process `p`, where it is there, within the lengths, and legal.

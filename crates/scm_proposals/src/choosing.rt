@@ -1,5 +1,6 @@
 //! The choice of the next operation.
 use crate::guided_walk::GuidedWalk;
+use scm_clocks::is_covered;
 
 /// The kinds of operations that can be made, best first.
 #[derive(Clone, Copy, PartialEq, Eq, PartialOrd, Ord)]
@@ -40,23 +41,14 @@ impl GuidedWalk {
     fn choice(&self, process: u32) -> Option<RankedOperation> {
         let place = self.order.counts.get(process)?;
         let x = self.order.facts.given.numbering.number(process, place)?;
-        if !self.is_ready(x)? || !self.finds(x)? {
+        let is_ready = is_covered(self.order.clocks.row(x)?, self.order.counts.list());
+        if !is_ready || !self.finds(x)? {
             return None;
         }
         Some(RankedOperation {
             x,
             rank: self.rank(x)?,
         })
-    }
-
-    // Whether all that comes before `x` is made.
-    fn is_ready(&self, x: u32) -> Option<bool> {
-        for process in 0..self.order.facts.procs {
-            if self.order.clocks.get(x, process)? > self.order.counts.get(process)? {
-                return Some(false);
-            }
-        }
-        Some(true)
     }
 
     // Whether `x` finds what it read, written by its source if that is known.
@@ -80,7 +72,7 @@ impl GuidedWalk {
         }
         let writer = self.content(x)?.writer;
         let is_own = facts.source(x) == Some(writer);
-        let is_barred = self.barred.get(x)? == writer.checked_add(1)?;
+        let is_barred = *self.barred.get(x as usize)? == Some(writer);
         if is_barred || self.readers.get(writer)? > u32::from(is_own) {
             return None;
         }
@@ -95,10 +87,9 @@ impl GuidedWalk {
     // How many operations have to be made until all readers of `x` are.
     fn distance(&self, x: u32) -> Option<u32> {
         let mut distance: u32 = 0;
-        for process in 0..self.order.facts.procs {
-            let last = self.order.facts.readers.get(x, process)?;
-            let count = self.order.counts.get(process)?;
-            distance = distance.saturating_add(last.saturating_sub(count));
+        let lasts = self.order.facts.readers.row(x)?;
+        for (last, count) in lasts.iter().zip(self.order.counts.list()) {
+            distance = distance.saturating_add(last.saturating_sub(*count));
         }
         Some(distance)
     }

@@ -19,8 +19,7 @@ pub fn is_near_end(
 ) -> bool {
     for _ in 0..=most.min(MOST_LEFT) {
         if !make_first(counts, contents, sequences, lengths) {
-            return counts.iter().enumerate().all(|(p, count)| p < lengths.procs()
-                && *count == lengths.get(p));
+            return *counts == *lengths.counts();
         }
     }
     false

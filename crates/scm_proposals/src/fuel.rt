@@ -27,8 +27,7 @@ pub(crate) fn fuel_of_search(lengths: &Lengths, room: usize) -> u64 {
     let fuel = (lengths.procs() as u64)
         .saturating_mul(SEARCH_FUEL_OF_FOUR)
         .div_ceil(4)
-        .max(LEAST_SEARCH_FUEL)
-        .min(MOST_SEARCH_FUEL);
+        .clamp(LEAST_SEARCH_FUEL, MOST_SEARCH_FUEL);
     (room as u64).saturating_mul(fuel)
 }
 

@@ -18,13 +18,6 @@ const PRICE_OF_VISIT: u64 = 2;
 /// search.
 const MOST_OF_SMALL: u32 = 4_096;
 
-/// What reads may see, and under which skew.
-#[derive(Drop)]
-pub(crate) struct SkewedGuess {
-    pub(crate) guess: Guess,
-    pub(crate) skew_number: u64,
-}
-
 /// The fuel of the search that so many visits of this order burn.
 pub(crate) fn price_of(visits: u64, order: &Order) -> u64 {
     let price = u64::from(order.facts.procs).saturating_mul(PRICE_OF_VISIT);
@@ -32,15 +25,15 @@ pub(crate) fn price_of(visits: u64, order: &Order) -> u64 {
 }
 
 impl Proposer<'_> {
-    /// What reads may see in a part, under the skews of these numbers, one after the other, each larger than the one before by the
-    /// first one over `divisor`.
+    /// What reads may see in a part, and under which skew: of those of these numbers the first one that has something, each larger
+    /// than the one before by the first one over `divisor`.
     pub(crate) fn guess(
         &self,
         part: &Part,
         skew_numbers: Range<u64>,
         divisor: u64,
         fuel: &mut u64,
-    ) -> Option<SkewedGuess> {
+    ) -> Option<(Guess, u64)> {
         for skew_number in skew_numbers {
             let share = if skew_number < SKEWS {
                 fuel.saturating_mul(FUEL_SHARE) / 100
@@ -54,7 +47,7 @@ impl Proposer<'_> {
             let guess = self.guess_under(part, skew_number, divisor, &mut left);
             *fuel = fuel.saturating_sub(share.saturating_sub(left));
             if let Some(guess) = guess {
-                return Some(SkewedGuess { guess, skew_number });
+                return Some((guess, skew_number));
             }
         }
         None
@@ -80,8 +73,12 @@ impl Proposer<'_> {
     // These orders with all that follows from single sources, where the fuel is enough.
     fn saturated(&self, mut given: Given, clocks: Clocks, fuel: &mut u64) -> Option<Order> {
         let sources = single_sources(self.alloc, &mut given)?;
-        let facts = Facts::new(self.alloc, given, sources)?;
-        let mut order = Order::new(self.alloc, facts, clocks)?;
+        let guess = Guess {
+            given,
+            sources,
+            clocks,
+        };
+        let mut order = Order::new(self.alloc, guess)?;
         order.fuel = *fuel / price_of(1, &order).max(1);
         let end = order.spread();
         *fuel = fuel.saturating_sub(price_of(order.visits, &order));

@@ -19,8 +19,8 @@ pub(crate) struct GuidedWalk {
     pub(crate) last: u32,
     /// How many known readers of each writer are to be made.
     pub(crate) readers: Numbers,
-    /// For each write the writer of what its cell holds, and 1, over which it may not be made.
-    pub(crate) barred: Numbers,
+    /// For each write the writer of what its cell holds, over which it may not be made.
+    pub(crate) barred: Vec<Option<u32>>,
     bars: Vec<Bar>,
     made: Vec<MadeOperation>,
     decisions: Vec<Decision>,
@@ -49,7 +49,7 @@ struct MadeOperation {
 #[derive(Clone, Copy)]
 struct Bar {
     x: u32,
-    before: u32,
+    before: Option<u32>,
 }
 
 /// A write that was chosen from several: how many operations were made before, how many clocks changed, and how many writes
@@ -72,7 +72,7 @@ impl GuidedWalk {
             memory.push(Content { value, writer }).ok()?;
         }
         let readers = order.facts.reader_counts(alloc)?;
-        let barred = Numbers::zeros(alloc, order.facts.ops)?;
+        let barred = vec![in alloc; None; order.facts.ops as usize].ok()?;
         Some(GuidedWalk {
             order,
             memory,
@@ -165,7 +165,7 @@ impl GuidedWalk {
         }
         for _ in decision.bars..self.bars.len() {
             let bar = self.bars.pop()?;
-            self.barred.set(bar.x, bar.before)?;
+            *self.barred.get_mut(bar.x as usize)? = bar.before;
         }
         self.bar(decision.x)
     }
@@ -173,9 +173,8 @@ impl GuidedWalk {
     // A write may not be made as long as its cell holds what it holds now.
     fn bar(&mut self, x: u32) -> Option<()> {
         let writer = self.content(x)?.writer;
-        let before = self.barred.get(x)?;
-        self.bars.push(Bar { x, before }).ok()?;
-        self.barred.set(x, writer.checked_add(1)?)
+        let before = self.barred.get_mut(x as usize)?.replace(writer);
+        self.bars.push(Bar { x, before }).ok()
     }
 
     fn make(&mut self, x: u32) -> Option<()> {

@@ -20,10 +20,9 @@ impl Numbers {
         self.list.get(place as usize).copied()
     }
 
-    /// Puts a number at a place.
-    pub(crate) fn set(&mut self, place: u32, number: u32) -> Option<()> {
-        *self.list.get_mut(place as usize)? = number;
-        Some(())
+    /// All of them.
+    pub(crate) fn list(&self) -> &[u32] {
+        self.list.as_slice()
     }
 
     /// Adds one.

@@ -2,6 +2,7 @@
 use crate::facts::Facts;
 use crate::numbers::Numbers;
 use scm_clocks::{Clocks, Flags, is_covered};
+use scm_cycles::Guess;
 use std::alloc::Global;
 
 /// How many operations of a process ahead are visited during the walk.
@@ -25,8 +26,15 @@ pub(crate) struct Order {
 }
 
 impl Order {
-    /// The order that these clocks tell, with all operations flagged.
-    pub(crate) fn new(alloc: Global, facts: Facts, clocks: Clocks) -> Option<Order> {
+    /// The order that the guessed clocks tell, with all operations flagged, where reads have the guessed sources, as far as there are
+    /// some.
+    pub(crate) fn new(alloc: Global, guess: Guess) -> Option<Order> {
+        let Guess {
+            given,
+            sources,
+            clocks,
+        } = guess;
+        let facts = Facts::new(alloc, given, sources)?;
         let most = u64::from(facts.procs)
             .saturating_add(1)
             .saturating_mul(MOST_VISITS);
@@ -131,7 +139,7 @@ impl Order {
     }
 
     // So many operations of a process come before `x`. Whether that is new.
-    pub(crate) fn raise(&mut self, x: u32, process: u32, count: u32) -> Option<bool> {
+    fn raise(&mut self, x: u32, process: u32, count: u32) -> Option<bool> {
         if self.clocks.get(x, process)? >= count {
             return Some(false);
         }

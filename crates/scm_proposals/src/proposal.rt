@@ -1,6 +1,5 @@
 //! A proposal for a schedule.
 use crate::beginning::Beginning;
-use crate::facts::Facts;
 use crate::fuel::{fuel_after_walks, fuel_of_search};
 use crate::guessing::price_of;
 use crate::guided_walk::GuidedWalk;
@@ -178,10 +177,12 @@ impl Proposer<'_> {
         let mut left = all;
         let has_windows = self.has_windows()?;
         if has_windows && self.has_few_writers()? {
-            let most = all / FIRST_PARTS;
-            if let Some(schedule) = self.complete_by_sources(most, &mut left) {
+            let mut part = all / FIRST_PARTS;
+            left = left.saturating_sub(part);
+            if let Some(schedule) = self.complete_by_sources(&mut part) {
                 return Some(schedule);
             }
+            left = left.saturating_add(part);
         }
         if let Some(schedule) = self.complete_by_turns(&mut left) {
             return Some(schedule);
@@ -190,28 +191,18 @@ impl Proposer<'_> {
             return Some(schedule);
         }
         let burnt = all.saturating_sub(left);
-        self.complete_by_sources(fuel.saturating_sub(burnt), &mut left)
+        let mut rest = fuel.saturating_sub(burnt);
+        self.complete_by_sources(&mut rest)
     }
 
-    // A schedule by a walk in which each read has the source that a search chose, with no more than so much of the fuel.
-    fn complete_by_sources(&self, most: u64, fuel: &mut u64) -> Option<Vec<u8>> {
-        let most = most.min(*fuel);
-        if most == 0 {
-            return None;
-        }
-        let mut left = most;
-        let schedule = self.complete_by_guess(&mut left);
-        *fuel = fuel.saturating_sub(most.saturating_sub(left));
-        schedule
-    }
-
-    // The guess's orders aren't kept, since they may need its skew.
-    fn complete_by_guess(&self, fuel: &mut u64) -> Option<Vec<u8>> {
+    // A schedule by a walk in which each read has the source that a search chose. The search's orders aren't kept, since they may
+    // need its skew.
+    fn complete_by_sources(&self, fuel: &mut u64) -> Option<Vec<u8>> {
         let nothing = self.beginning(&[])?;
         let part = self.part(&nothing, self.lengths.counts(), u32::MAX);
-        let mut guess = self.guess(&part, 0..SKEWS + 1, SKEW_DIVISOR, fuel)?.guess;
-        guess.clocks = Clocks::new(self.alloc, &guess.given.numbering)?;
-        self.complete_by(guess, fuel)
+        let guess = self.guess(&part, 0..SKEWS + 1, SKEW_DIVISOR, fuel)?.0;
+        let clocks = Clocks::new(self.alloc, &guess.given.numbering)?;
+        self.complete_by(Guess { clocks, ..guess }, fuel)
     }
 
     // Whether half of the reads at least found what few writes wrote.
@@ -234,36 +225,28 @@ impl Proposer<'_> {
         let mut given = self.given(kept)?;
         let sources = single_sources(self.alloc, &mut given)?;
         let clocks = Clocks::new(self.alloc, &given.numbering)?;
-        self.walk_by(given, sources, clocks)
+        self.walk_by(Guess {
+            given,
+            sources,
+            clocks,
+        })
     }
 
     // A walk in which reads have these sources, and that keeps these orders.
-    fn walk_by(
-        &self,
-        given: Given,
-        sources: Vec<Option<u32>>,
-        clocks: Clocks,
-    ) -> Option<GuidedWalk> {
-        let facts = Facts::new(self.alloc, given, sources)?;
-        let more = if facts.are_sources_known {
+    fn walk_by(&self, guess: Guess) -> Option<GuidedWalk> {
+        let order = Order::new(self.alloc, guess)?;
+        let more = if order.facts.are_sources_known {
             self.limit / SITUATIONS_OF_PATIENCE
         } else {
             0
         };
         let patience = LEAST_PATIENCE.saturating_add(more as u64);
-        let order = Order::new(self.alloc, facts, clocks)?;
         GuidedWalk::new(self.alloc, order, patience)
     }
 
     /// A schedule of a part in which each read has the source that was guessed, and that keeps the guessed orders.
     pub(crate) fn complete_by(&self, guess: Guess, fuel: &mut u64) -> Option<Vec<u8>> {
-        let Guess {
-            given,
-            sources,
-            clocks,
-            ..
-        } = guess;
-        let mut walk = self.walk_by(given, sources, clocks)?;
+        let mut walk = self.walk_by(guess)?;
         self.complete(&[], &mut walk, fuel)
     }
 

@@ -44,9 +44,7 @@ fn first_skew(given: &Given) -> Option<u64> {
     let values = u64::from(given.values.count()).saturating_add(1) / cells.max(1);
     let doublings = ops
         .saturating_mul(ops)
-        .saturating_mul(values)
-        .saturating_mul(values)
-        .saturating_mul(values)
+        .saturating_mul(values.saturating_pow(3))
         .max(1)
         .ilog2();
     Some(

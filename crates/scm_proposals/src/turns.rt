@@ -2,8 +2,7 @@
 use crate::beginning::Beginning;
 use crate::proposal::Proposer;
 use crate::turn_ops::{TurnOp, turn_ops_of};
-use scm_sequences::{Lengths, Op, Sequences};
-use std::alloc::Global;
+use scm_sequences::Op;
 
 /// How many beginnings are kept of each number of turns.
 const MOST_BEGINNINGS: usize = 128;
@@ -17,29 +16,26 @@ const FIRST_TURNS: u32 = 3;
 const TURN_STEPS_OF_FUEL: u64 = 8;
 
 /// The operations that some turns make, in this order. The last turn is of this process.
-#[derive(Drop)]
+#[derive(Clone, Drop)]
 struct Turns {
     schedule: Vec<u8>,
     made: Beginning,
-    last: Option<u32>,
+    last: Option<usize>,
 }
 
 /// One turn more: after which beginning, of which process, and of how many operations.
 #[derive(Clone, Copy)]
 struct NextTurn {
     beginning: usize,
-    process: u32,
+    process: usize,
     len: u32,
 }
 
 /// The operations of each process, how many there are, and what is left to be burnt, in steps.
 #[derive(Drop)]
 struct TurnSearch<'a> {
-    alloc: Global,
-    sequences: &'a Sequences,
-    lengths: &'a Lengths,
+    proposer: &'a Proposer<'a>,
     turn_ops: Vec<Vec<TurnOp>>,
-    procs: u32,
     ops: u32,
     steps: u64,
 }
@@ -53,11 +49,8 @@ impl Proposer<'_> {
             last: None,
         };
         let mut search = TurnSearch {
-            alloc: self.alloc,
-            sequences: self.sequences,
-            lengths: self.lengths,
+            proposer: self,
             turn_ops: self.turn_ops()?,
-            procs: u32::try_from(self.lengths.procs()).ok()?,
             ops: u32::try_from(nothing.made.left(self.lengths)).ok()?,
             steps: fuel.saturating_mul(TURN_STEPS_OF_FUEL),
         };
@@ -81,14 +74,15 @@ impl Proposer<'_> {
 impl TurnSearch<'_> {
     // Adds turns to the best beginnings, until one has all operations or turns get short.
     fn find(&mut self, nothing: Turns) -> Option<Vec<u8>> {
-        let mut kept = Vec::new(self.alloc);
+        let mut kept = Vec::new(self.proposer.alloc);
         kept.push(nothing).ok()?;
         for number in 1..=self.ops {
             kept = self.add_turns(&kept)?;
-            let most = longest(&kept)?;
+            // Of those that are as long as the longest the first one.
+            let most = kept.iter().rev().max_by_key(|turns| turns.schedule.len())?;
             let made = u32::try_from(most.schedule.len()).ok()?;
             if made == self.ops {
-                return most.schedule.to_vec(self.alloc).ok();
+                return most.schedule.to_vec(self.proposer.alloc).ok();
             }
             if number >= FIRST_TURNS && made < number.saturating_mul(LEAST_TURN) {
                 return None;
@@ -100,12 +94,12 @@ impl TurnSearch<'_> {
     // The best of all that have one turn more.
     fn add_turns(&mut self, beginnings: &[Turns]) -> Option<Vec<Turns>> {
         self.burn(u64::from(self.ops))?;
-        let mut next = Vec::new(self.alloc);
+        let mut next = Vec::new(self.proposer.alloc);
         for _ in 0..=self.ops {
-            next.push(Vec::new(self.alloc)).ok()?;
+            next.push(Vec::new(self.proposer.alloc)).ok()?;
         }
         for (number, turns) in beginnings.iter().enumerate() {
-            for process in 0..self.procs {
+            for process in 0..self.turn_ops.len() {
                 if turns.last != Some(process) {
                     self.rate(&mut next, number, turns, process)?;
                 }
@@ -121,14 +115,14 @@ impl TurnSearch<'_> {
         next: &mut [Vec<NextTurn>],
         beginning: usize,
         turns: &Turns,
-        process: u32,
+        process: usize,
     ) -> Option<()> {
         let most = self.run(&turns.made, process)?;
         let before = u32::try_from(turns.schedule.len()).ok()?;
         self.burn(turns.made.size())?;
-        let mut made = turns.made.copy(self.alloc)?;
+        let mut made = turns.made.clone().ok()?;
         for len in 1..=most {
-            made.make(self.sequences, self.lengths, process as usize)?;
+            made.make(self.proposer.sequences, self.proposer.lengths, process)?;
             if len < most && matches!(self.next(&made, process)?, Op::R { .. }) {
                 continue;
             }
@@ -145,9 +139,9 @@ impl TurnSearch<'_> {
     }
 
     // How many operations a process can make one after the other.
-    fn run(&mut self, made: &Beginning, process: u32) -> Option<u32> {
-        let from = *made.counts.get(process as usize)?;
-        let left = self.turn_ops.get(process as usize)?.get(from as usize..)?;
+    fn run(&mut self, made: &Beginning, process: usize) -> Option<u32> {
+        let from = *made.counts.get(process)?;
+        let left = self.turn_ops.get(process)?.get(from as usize..)?;
         let mut len: u32 = 0;
         for turn_op in left {
             let fits = if turn_op.earlier > from {
@@ -165,9 +159,9 @@ impl TurnSearch<'_> {
     }
 
     // How many operations some other process can make.
-    fn longest_run(&mut self, made: &Beginning, process: u32) -> Option<u32> {
+    fn longest_run(&mut self, made: &Beginning, process: usize) -> Option<u32> {
         let mut most = 0;
-        for other in 0..self.procs {
+        for other in 0..self.turn_ops.len() {
             if other != process {
                 most = most.max(self.run(made, other)?);
             }
@@ -175,24 +169,21 @@ impl TurnSearch<'_> {
         Some(most)
     }
 
-    fn next(&self, made: &Beginning, process: u32) -> Option<Op> {
-        let count = *made.counts.get(process as usize)?;
-        let turn_op = self.turn_ops.get(process as usize)?.get(count as usize)?;
+    fn next(&self, made: &Beginning, process: usize) -> Option<Op> {
+        let count = *made.counts.get(process)?;
+        let turn_op = self.turn_ops.get(process)?.get(count as usize)?;
         Some(turn_op.op)
     }
 
     // Of those that are the same but for their order one is kept.
     fn keep_best(&mut self, beginnings: &[Turns], next: &[Vec<NextTurn>]) -> Option<Vec<Turns>> {
-        let mut kept = Vec::new(self.alloc);
+        let mut kept = Vec::new(self.proposer.alloc);
         for turn in next.iter().rev().flat_map(|turns| turns.iter()) {
             if kept.len() >= MOST_BEGINNINGS {
                 break;
             }
             let turns = self.with(beginnings.get(turn.beginning)?, *turn)?;
-            if !kept
-                .iter()
-                .any(|other: &Turns| other.made.is_same(&turns.made))
-            {
+            if !kept.iter().any(|other: &Turns| other.made == turns.made) {
                 kept.push(turns).ok()?;
             }
         }
@@ -202,38 +193,31 @@ impl TurnSearch<'_> {
     // With a turn more, and all reads that can be made then.
     fn with(&mut self, turns: &Turns, turn: NextTurn) -> Option<Turns> {
         self.burn(turns.schedule.len() as u64)?;
-        let mut schedule = turns.schedule.to_vec(self.alloc).ok()?;
-        let mut made = turns.made.copy(self.alloc)?;
+        let mut turns = turns.clone().ok()?;
         for _ in 0..turn.len {
-            self.make(&mut schedule, &mut made, turn.process)?;
+            self.make(&mut turns, turn.process)?;
         }
-        for process in 0..self.procs {
-            self.make_reads(&mut schedule, &mut made, process)?;
+        for process in 0..self.turn_ops.len() {
+            self.make_reads(&mut turns, process)?;
         }
-        Some(Turns {
-            schedule,
-            made,
-            last: Some(turn.process),
-        })
+        turns.last = Some(turn.process);
+        Some(turns)
     }
 
-    fn make(&self, schedule: &mut Vec<u8>, made: &mut Beginning, process: u32) -> Option<()> {
-        schedule.push(u8::try_from(process).ok()?).ok()?;
-        made.make(self.sequences, self.lengths, process as usize)
+    fn make(&self, turns: &mut Turns, process: usize) -> Option<()> {
+        turns.schedule.push(u8::try_from(process).ok()?).ok()?;
+        turns
+            .made
+            .make(self.proposer.sequences, self.proposer.lengths, process)
     }
 
-    fn make_reads(
-        &mut self,
-        schedule: &mut Vec<u8>,
-        made: &mut Beginning,
-        process: u32,
-    ) -> Option<()> {
-        for _ in 0..self.run(made, process)? {
-            let op = self.next(made, process)?;
-            if !matches!(op, Op::R { .. }) || made.contents.get(op.cell())?.is_none() {
+    fn make_reads(&mut self, turns: &mut Turns, process: usize) -> Option<()> {
+        for _ in 0..self.run(&turns.made, process)? {
+            let op = self.next(&turns.made, process)?;
+            if !matches!(op, Op::R { .. }) || turns.made.contents.get(op.cell())?.is_none() {
                 break;
             }
-            self.make(schedule, made, process)?;
+            self.make(turns, process)?;
         }
         Some(())
     }
@@ -242,14 +226,4 @@ impl TurnSearch<'_> {
         self.steps = self.steps.checked_sub(steps)?;
         Some(())
     }
-}
-
-fn longest(kept: &[Turns]) -> Option<&Turns> {
-    let mut best = kept.first()?;
-    for turns in kept {
-        if turns.schedule.len() > best.schedule.len() {
-            best = turns;
-        }
-    }
-    Some(best)
 }

@@ -1,10 +1,10 @@
 //! A schedule that is made window by window: of a long trace only the next operations of each process are looked at, and of
 //! their schedule the beginning is kept.
 use crate::beginning::Beginning;
-use crate::guessing::SkewedGuess;
 use crate::proposal::Proposer;
 use crate::skew::SKEWS;
 use scm_clocks::Part;
+use scm_cycles::Guess;
 
 /// How many operations of each process a window has: so many for each process, within these bounds.
 const WIDTH_OF_PROCESS: u32 = 14;
@@ -115,7 +115,7 @@ impl Proposer<'_> {
     fn window_width(&self) -> Option<u32> {
         let procs = u32::try_from(self.lengths.procs()).ok()?;
         let width = procs.saturating_mul(WIDTH_OF_PROCESS);
-        Some(width.max(LEAST_WIDTH).min(MOST_WIDTH))
+        Some(width.clamp(LEAST_WIDTH, MOST_WIDTH))
     }
 
     // Adds the schedule of the next window, as far as it is kept. Whether there is one.
@@ -128,11 +128,7 @@ impl Proposer<'_> {
             progress.width.saturating_mul(CHECKED) / SIXTEENTHS
         };
         let part = self.part(&progress.beginning, ends.as_slice(), checked);
-        let Some(SkewedGuess { guess, skew_number }) = self.window_guess(
-            &part,
-            progress.skew_number,
-            fuel,
-        ) else {
+        let Some((guess, skew_number)) = self.window_guess(&part, progress.skew_number, fuel) else {
             return Some(false);
         };
         progress.skew_number = skew_number;
@@ -148,7 +144,7 @@ impl Proposer<'_> {
     }
 
     // What reads see in a window, under the skews from this one on.
-    fn window_guess(&self, part: &Part, skew_number: u64, fuel: &mut u64) -> Option<SkewedGuess> {
+    fn window_guess(&self, part: &Part, skew_number: u64, fuel: &mut u64) -> Option<(Guess, u64)> {
         *fuel = fuel.checked_sub(part.size())?;
         let ops = part.size() / (part.ends.len() as u64).max(1);
         let most = ops.saturating_mul(WINDOW_FUEL).min(*fuel);
