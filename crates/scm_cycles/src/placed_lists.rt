@@ -1,6 +1,15 @@
 //! Lists from which an item is taken away at once.
 use std::alloc::Global;
 
+/// So many empty lists.
+pub(crate) fn empty_lists<T: Drop>(alloc: Global, count: u32) -> Option<Vec<Vec<T>>> {
+    let mut lists = Vec::new(alloc);
+    for _ in 0..count {
+        lists.push(Vec::new(alloc)).ok()?;
+    }
+    Some(lists)
+}
+
 /// Lists of items in any order, and the place of each. An item stands in one of them at most.
 #[derive(Drop)]
 pub(crate) struct PlacedLists {
@@ -11,12 +20,8 @@ pub(crate) struct PlacedLists {
 impl PlacedLists {
     /// So many empty lists, of items below a bound.
     pub(crate) fn new(alloc: Global, count: u32, bound: u32) -> Option<PlacedLists> {
-        let mut lists = Vec::new(alloc);
-        for _ in 0..count {
-            lists.push(Vec::new(alloc)).ok()?;
-        }
         Some(PlacedLists {
-            lists,
+            lists: empty_lists(alloc, count)?,
             places: vec![in alloc; 0; bound as usize].ok()?,
         })
     }

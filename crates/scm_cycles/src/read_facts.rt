@@ -1,4 +1,5 @@
 //! What reads see, by the steps that tell it.
+use crate::placed_lists::empty_lists;
 use std::alloc::Global;
 
 /// For each read the step that tells what it sees, once that is drawn, and those that tell what it doesn't see beside all that
@@ -12,13 +13,9 @@ pub(crate) struct ReadFacts {
 
 impl ReadFacts {
     pub(crate) fn new(alloc: Global, ops: u32, cells: u32) -> Option<ReadFacts> {
-        let mut unseen = Vec::new(alloc);
-        for _ in 0..ops {
-            unseen.push(Vec::new(alloc)).ok()?;
-        }
         Some(ReadFacts {
             sources: vec![in alloc; None; ops as usize].ok()?,
-            unseen,
+            unseen: empty_lists(alloc, ops)?,
             firsts: vec![in alloc; None; cells as usize].ok()?,
         })
     }

@@ -1,4 +1,5 @@
 //! How clocks rose.
+use crate::placed_lists::empty_lists;
 use std::alloc::Global;
 
 /// The most rises of a trace: one that has more gets no list.
@@ -24,13 +25,9 @@ pub(crate) struct Rises {
 
 impl Rises {
     pub(crate) fn new(alloc: Global, procs: u32) -> Option<Rises> {
-        let mut lists = Vec::new(alloc);
-        for _ in 0..procs.checked_mul(procs)? {
-            lists.push(Vec::new(alloc)).ok()?;
-        }
         Some(Rises {
             procs,
-            lists,
+            lists: empty_lists(alloc, procs.checked_mul(procs)?)?,
             places: Vec::new(alloc),
         })
     }
@@ -53,8 +50,8 @@ impl Rises {
         if self.places.len() >= MOST_RISES {
             return None;
         }
-        let list = self.lists.get_mut(place)?;
-        list.push(Rise { at, count, by }).ok()?;
+        let rise = Rise { at, count, by };
+        self.lists.get_mut(place)?.push(rise).ok()?;
         self.places.push(u32::try_from(place).ok()?).ok()
     }
 
