@@ -27,11 +27,8 @@ impl Search {
         count: u32,
     ) -> Option<()> {
         let (owner, place) = spot;
-        for back in 1..=count {
-            let x = self
-                .given
-                .numbering
-                .number(process, count.checked_sub(back)?)?;
+        for at in (0..count).rev() {
+            let x = self.given.numbering.number(process, at)?;
             if self.after(x, owner)? <= place {
                 break;
             }

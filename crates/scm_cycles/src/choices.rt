@@ -39,14 +39,11 @@ impl Choices {
 
     /// A contradiction goes through this claim: its operations are chosen sooner.
     pub(crate) fn bump(&mut self, claim: Claim) -> Option<()> {
-        self.raise(claim.to)?;
-        self.raise(claim.watched())
-    }
-
-    fn raise(&mut self, x: u32) -> Option<()> {
         let increment = self.increment;
-        let activity = self.activities.get_mut(x as usize)?;
-        *activity = activity.saturating_add(increment);
+        for x in [claim.to, claim.watched()] {
+            let activity = self.activities.get_mut(x as usize)?;
+            *activity = activity.saturating_add(increment);
+        }
         Some(())
     }
 

@@ -68,8 +68,7 @@ impl Search {
 
     // Back to the first step of the level that all of the contradiction goes through.
     fn resolve(&mut self, conflict: &mut Conflict) -> Option<()> {
-        for back in 1..=conflict.contradiction {
-            let id = conflict.contradiction.checked_sub(back)?;
+        for id in (0..conflict.contradiction).rev() {
             if !*conflict.is_seen.get(id as usize)? || self.steps.get(id)?.level < conflict.level {
                 continue;
             }

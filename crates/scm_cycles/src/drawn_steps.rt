@@ -24,7 +24,8 @@ pub(crate) struct Step {
     pub(crate) rule: Rule,
     pub(crate) level: u32,
     pub(crate) older: Option<u32>,
-    needs_end: usize,
+    // Where those needs begin that it follows from.
+    needs_start: usize,
 }
 
 /// All of them, in the order in which they were drawn, with a chain of those that lead on from each operation.
@@ -54,11 +55,9 @@ impl DrawnSteps {
 
     /// What a step follows from.
     pub(crate) fn needs(&self, id: u32) -> Option<&[Need]> {
-        let start = match id.checked_sub(1) {
-            Some(before) => self.get(before)?.needs_end,
-            None => 0,
-        };
-        self.needs.get(start..self.get(id)?.needs_end)
+        let next = self.get(id.checked_add(1)?);
+        let end = next.map_or(self.needs.len(), |step| step.needs_start);
+        self.needs.get(self.get(id)?.needs_start..end)
     }
 
     /// Adds one, and gives its number.
@@ -70,6 +69,7 @@ impl DrawnSteps {
         needs: &[Need],
     ) -> Option<u32> {
         let id = self.len()?;
+        let needs_start = self.needs.len();
         self.needs.extend_from_slice(needs).ok()?;
         let newest = self.newest.get_mut(claim.from as usize)?;
         let step = Step {
@@ -77,7 +77,7 @@ impl DrawnSteps {
             rule,
             level,
             older: *newest,
-            needs_end: self.needs.len(),
+            needs_start,
         };
         self.list.push(step).ok()?;
         if claim.is_order() {
@@ -92,11 +92,7 @@ impl DrawnSteps {
         if step.claim.is_order() {
             *self.newest.get_mut(step.claim.from as usize)? = step.older;
         }
-        let kept = match self.list.last() {
-            Some(last) => last.needs_end,
-            None => 0,
-        };
-        self.needs.truncate(kept);
+        self.needs.truncate(step.needs_start);
         Some(step)
     }
 

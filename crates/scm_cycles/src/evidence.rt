@@ -107,10 +107,7 @@ impl Search {
 
     // The step that tells that the read doesn't see first contents, or what they are.
     fn first_ruled_out(&self, read: u32, cell: u32) -> Option<u32> {
-        if let Some(id) = self.unseen_first(read)? {
-            return Some(id);
-        }
-        let (_, id) = self.read_facts.first(cell)??;
-        Some(id)
+        let telling = self.read_facts.first(cell)?.map(|(_, id)| id);
+        self.unseen_first(read)?.or(telling)
     }
 }

@@ -84,11 +84,10 @@ impl Search {
     // Where those end that come before `end` and that no step rules out.
     fn end_left(&self, bounds: Bounds, read: u32, value: u32, end: u32) -> Option<u32> {
         let writers = self.given.writers.of(value)?;
-        for back in 0..bounds.len() {
-            let high = bounds.high.checked_sub(back)?;
-            let write = *writers.get(high.checked_sub(1)? as usize)?;
+        for at in (bounds.low..bounds.high).rev() {
+            let write = *writers.get(at as usize)?;
             if write < end && self.unseen(write, read)?.is_none() {
-                return Some(high);
+                return at.checked_add(1);
             }
         }
         Some(bounds.low)

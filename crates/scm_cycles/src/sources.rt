@@ -33,10 +33,7 @@ impl Search {
     // Finds what each read may see where these orders are kept.
     fn settle_after(&mut self, clocks: Clocks) -> Option<()> {
         self.suppose(clocks)?;
-        match self.try_cases()? {
-            Some(_) => None,
-            None => Some(()),
-        }
+        self.try_cases()?.is_none().then_some(())
     }
 
     fn sources(&self) -> Option<Vec<Option<u32>>> {

@@ -25,15 +25,14 @@ impl Search {
             return Some(Some(true));
         }
         let is_false = from == to || self.is_before(to, from)?;
-        Some(if is_false { Some(false) } else { None })
+        Some(is_false.then_some(false))
     }
 
     fn seen_truth(&self, claim: Claim) -> Option<Option<bool>> {
         if let Some(id) = self.read_facts.source(claim.to)? {
             return Some(Some(self.steps.get(id)?.claim == claim));
         }
-        let is_false = self.unseen_need(claim)?.is_some();
-        Some(if is_false { Some(false) } else { None })
+        Some(self.unseen_need(claim)?.map(|_| false))
     }
 
     /// What shows that this claim, that a read sees something, is false, if something does.
@@ -41,7 +40,7 @@ impl Search {
         let read = claim.to;
         if let Some(id) = self.read_facts.source(read)? {
             let is_other = self.steps.get(id)?.claim != claim;
-            return Some(if is_other { Some(Need::Step(id)) } else { None });
+            return Some(is_other.then_some(Need::Step(id)));
         }
         match claim.kind {
             Kind::Sees => self.unseen_write_need(claim.from, read),
@@ -82,7 +81,7 @@ impl Search {
             return Some(None);
         };
         let is_other = self.given.values.found(read) != Some(value);
-        Some(if is_other { Some(Need::Step(id)) } else { None })
+        Some(is_other.then_some(Need::Step(id)))
     }
 
     /// What shows that a claim is false.

@@ -1,6 +1,7 @@
 //! What is to be looked at again.
 use scm_clocks::Flags;
 use std::alloc::Global;
+use std::mem;
 
 /// Operations and reads in the order in which they are looked at: raised ones, reads that see something known, other reads; and
 /// what is new of each operation since it was looked at. Nothing is noted before it is said that cases are tried.
@@ -97,9 +98,7 @@ impl Waiting {
             return Some(News::ALL);
         }
         let news = self.news.get_mut(read as usize)?;
-        let taken = *news;
-        *news = News::NOTHING;
-        Some(taken)
+        Some(mem::replace(news, News::NOTHING))
     }
 
     pub(crate) fn touch(&mut self, read: u32, is_settled: bool) -> Option<()> {
@@ -112,10 +111,7 @@ impl Waiting {
 
     /// The read that is looked at next.
     pub(crate) fn next_read(&mut self) -> Option<u32> {
-        match self.settled.next() {
-            Some(read) => Some(read),
-            None => self.open.next(),
-        }
+        self.settled.next().or_else(|| self.open.next())
     }
 
     pub(crate) fn clear(&mut self) {
