@@ -16,11 +16,10 @@ struct WeightedClaim {
     weight: u64,
 }
 
-// Of two, the one for which more speaks.
-fn better(best: Option<WeightedClaim>, claim: Claim, weight: u64) -> Option<WeightedClaim> {
-    match best {
-        Some(choice) if choice.weight >= weight => best,
-        _ => Some(WeightedClaim { claim, weight }),
+// Puts a claim in the place of the best one, if more speaks for it.
+fn offer(best: &mut Option<WeightedClaim>, claim: Claim, weight: u64) {
+    if best.is_none_or(|choice| weight > choice.weight) {
+        *best = Some(WeightedClaim { claim, weight });
     }
 }
 
@@ -29,7 +28,7 @@ impl Search {
     pub(crate) fn choose(&mut self) -> Option<Option<Claim>> {
         let open = u32::try_from(self.candidates.open_reads()?.len()).ok()?;
         self.burn(open / READS_OF_STEP)?;
-        if let Some(read) = self.open_read(self.restarts.count)? {
+        if let Some(read) = self.open_read()? {
             return Some(Some(self.choose_source(read)?));
         }
         if self.sought == Sought::Schedule {
@@ -40,10 +39,10 @@ impl Search {
     }
 
     // The read by activity over how much is left, the latter by another power after each restart.
-    fn open_read(&self, restarts: u64) -> Option<Option<u32>> {
+    fn open_read(&self) -> Option<Option<u32>> {
         let mut best: Option<(u32, u64)> = None;
         for read in self.candidates.open_reads()? {
-            let weight = self.weight(*read, restarts)?;
+            let weight = self.weight(*read)?;
             if best.is_none_or(|(first, most)| weight > most || weight == most && *read < first) {
                 best = Some((*read, weight));
             }
@@ -51,10 +50,10 @@ impl Search {
         Some(best.map(|(read, _)| read))
     }
 
-    fn weight(&self, read: u32, restarts: u64) -> Option<u64> {
+    fn weight(&self, read: u32) -> Option<u64> {
         let left = self.candidates.left(read)?;
         let part = u64::from(left).saturating_mul(2).saturating_sub(1).max(1);
-        let over = match restarts % 3 {
+        let over = match self.restarts.count % 3 {
             1 => part.saturating_mul(part),
             2 => part,
             _ => part.saturating_mul(part).saturating_mul(part),
@@ -85,24 +84,24 @@ impl Search {
         let mut best = None;
         if self.candidates.is_first_left(read)? {
             let far = self.progress(read)?;
-            best = better(best, Claim::sees_first(read), u64::MAX.saturating_sub(far));
+            let claim = Claim::sees_first(read);
+            offer(&mut best, claim, u64::MAX.saturating_sub(far));
         }
         for bounds in self.candidates.row(read)? {
             let writers = self.given.writers.of(value)?;
             let left = part(writers, bounds.low, bounds.high);
-            best = self.nearest(best, read, left)?;
+            self.offer_nearest(&mut best, read, left)?;
         }
         best.map(|choice| choice.claim)
     }
 
-    fn nearest(
+    fn offer_nearest(
         &self,
-        best: Option<WeightedClaim>,
+        best: &mut Option<WeightedClaim>,
         read: u32,
         left: &[u32],
-    ) -> Option<Option<WeightedClaim>> {
+    ) -> Option<()> {
         let here = self.progress(read)?;
-        let mut best = best;
         for write in left {
             if self.unseen(*write, read)?.is_some() {
                 continue;
@@ -114,9 +113,9 @@ impl Search {
                 here.saturating_sub(there)
             };
             let claim = Claim::sees(*write, read);
-            best = better(best, claim, u64::MAX.saturating_sub(far));
+            offer(best, claim, u64::MAX.saturating_sub(far));
         }
-        Some(best)
+        Some(())
     }
 
     // Of a write whose order to a read and what that sees isn't known.
@@ -126,19 +125,14 @@ impl Search {
             if let Some(source) = self.read_facts.source(read)? {
                 let claim = self.steps.get(source)?.claim;
                 if claim.is_order() {
-                    best = self.open_order(best, claim)?;
+                    self.offer_orders(&mut best, claim)?;
                 }
             }
         }
         Some(best.map(|choice| choice.claim))
     }
 
-    fn open_order(
-        &self,
-        best: Option<WeightedClaim>,
-        seen: Claim,
-    ) -> Option<Option<WeightedClaim>> {
-        let mut best = best;
+    fn offer_orders(&self, best: &mut Option<WeightedClaim>, seen: Claim) -> Option<()> {
         for process in 0..self.procs {
             if let Some(x) = self.between(seen, process)? {
                 let weight = self.choices.share(seen.to)?.max(self.choices.share(x)?);
@@ -148,10 +142,10 @@ impl Search {
                 } else {
                     Claim::before(seen.to, x)
                 };
-                best = better(best, claim, weight);
+                offer(best, claim, weight);
             }
         }
-        Some(best)
+        Some(())
     }
 
     // The first write of a process to the cell that is known neither to come before the source nor after the read.
@@ -173,7 +167,8 @@ impl Search {
         }
     }
 
-    fn write_at(&self, process: u32, cell: u32, place: u32) -> Option<u32> {
+    /// The first write of a process to a cell, from a place on.
+    pub(crate) fn write_at(&self, process: u32, cell: u32, place: u32) -> Option<u32> {
         let at = self.given.writes.from(process, cell, place)?;
         self.given.numbering.number(process, at)
     }
