@@ -31,7 +31,7 @@ impl Search {
 
     /// Adds a step, and gives its number: nothing is drawn from it yet.
     pub(crate) fn add(&mut self, claim: Claim, rule: Rule, needs: &[Need]) -> Option<u32> {
-        let level = self.trail.level();
+        let level = u32::try_from(self.trail.len()).ok()?;
         self.steps.add(claim, rule, level, needs)
     }
 
@@ -69,7 +69,7 @@ impl Search {
     // What shows that all of a clause but one claim is false, in the order in which its block supposes it.
     fn clause_needs(&self, k: u32, claim: Claim) -> Option<Vec<Need>> {
         let mut needs = Vec::new(self.alloc);
-        for other in self.clauses.claims(k)? {
+        for other in &self.clauses.get(k)?.claims {
             if *other != claim {
                 needs.push(self.falsity(*other)?).ok()?;
             }

@@ -1,5 +1,6 @@
 //! The search by cases: for a contradiction, or for what reads see in some schedule.
 use crate::claims::Claim;
+use crate::clauses::Clause;
 use crate::conflict::Conflict;
 use crate::gathering::gather;
 use crate::search::{Search, Sought};
@@ -28,17 +29,6 @@ impl Restarts {
         let times = 1u64.checked_shl(self.count.trailing_zeros()).unwrap_or(1);
         self.conflicts > UNIT.saturating_mul(times)
     }
-
-    fn next(self) -> Restarts {
-        Restarts {
-            count: self.count.saturating_add(1),
-            conflicts: 0,
-        }
-    }
-
-    fn add(&mut self) {
-        self.conflicts = self.conflicts.saturating_add(1);
-    }
 }
 
 impl Search {
@@ -57,10 +47,14 @@ impl Search {
                     return Some(Some(conflict));
                 }
                 self.learn(conflict)?;
-                self.restarts.add();
+                self.restarts.conflicts = self.restarts.conflicts.saturating_add(1);
                 continue;
             }
-            self.restart_if_due()?;
+            if self.restarts.are_due() {
+                self.restarts.count = self.restarts.count.saturating_add(1);
+                self.restarts.conflicts = 0;
+                self.undo_to(0)?;
+            }
             self.open_level()?;
             let Some(claim) = self.choose()? else {
                 return Some(None);
@@ -68,14 +62,6 @@ impl Search {
             self.assert(claim, Rule::Assumed, &[])?;
         }
         None
-    }
-
-    fn restart_if_due(&mut self) -> Option<()> {
-        if self.restarts.are_due() {
-            self.restarts = self.restarts.next();
-            self.undo_to(0)?;
-        }
-        Some(())
     }
 
     // Draws all that follows, until a cycle is closed or nothing is left to be looked at.
@@ -98,12 +84,9 @@ impl Search {
     }
 
     fn look_again(&mut self, read: u32) -> Option<()> {
-        let Some(value) = self.given.values.found(read) else {
-            return Some(());
-        };
+        let value = self.given.values.found(read)?;
         self.burn(1)?;
-        let cell = self.given.numbering.cell(read)?;
-        self.visit(read, cell, value)?;
+        self.visit(read, value)?;
         if self.contradiction.is_none() {
             self.review_all(read)?;
         }
@@ -118,19 +101,24 @@ impl Search {
                 lines: Vec::new(self.alloc),
                 hints: Vec::new(self.alloc),
             },
-            Sought::Refutation => gather(self.alloc, self, &conflict)?,
+            Sought::Refutation => gather(self, &conflict)?,
         };
         let (claims, second, level) = self.negations(&conflict)?;
         let (newest, others) = claims.split_last()?;
         let (newest, watched) = (*newest, [others.len(), second]);
-        let base = self.trail.first_steps()?;
+        let clause = Clause {
+            claims,
+            watched,
+            block,
+            base: self.trail.first()?.steps,
+        };
         self.choices.age();
         let kept = match self.sought {
             Sought::Schedule if level > 0 => level.midpoint(conflict.level),
             _ => level,
         };
         self.undo_to(kept)?;
-        let k = self.clauses.add(claims, watched, block, base)?;
+        let k = self.clauses.add(clause)?;
         self.infer(k, newest)
     }
 

@@ -1,5 +1,6 @@
 //! What was learned from contradictions.
 use crate::claims::Claim;
+use crate::placed_lists::empty_lists;
 use scm_orders::Derivation;
 use std::alloc::Global;
 
@@ -9,11 +10,11 @@ const MOST_BLOCK_LINES: usize = 1 << 22;
 /// Claims of which one is true, and where the two stand that are watched; the block that shows it, and how many steps were
 /// outside of blocks then.
 #[derive(Drop)]
-struct Clause {
-    claims: Vec<Claim>,
-    watched: [usize; 2],
-    block: Derivation,
-    base: u32,
+pub(crate) struct Clause {
+    pub(crate) claims: Vec<Claim>,
+    pub(crate) watched: [usize; 2],
+    pub(crate) block: Derivation,
+    pub(crate) base: u32,
 }
 
 /// All clauses, and for each operation those of which a watched claim may turn out to be false at its change.
@@ -26,13 +27,9 @@ pub(crate) struct Clauses {
 
 impl Clauses {
     pub(crate) fn new(alloc: Global, ops: u32) -> Option<Clauses> {
-        let mut watching = Vec::new(alloc);
-        for _ in 0..ops {
-            watching.push(Vec::new(alloc)).ok()?;
-        }
         Some(Clauses {
             list: Vec::new(alloc),
-            watching,
+            watching: empty_lists(alloc, ops)?,
             lines: 0,
         })
     }
@@ -41,35 +38,25 @@ impl Clauses {
         u32::try_from(self.list.len()).ok()
     }
 
+    pub(crate) fn get(&self, k: u32) -> Option<&Clause> {
+        self.list.get(k as usize)
+    }
+
     /// Adds one, and gives its number.
-    pub(crate) fn add(
-        &mut self,
-        claims: Vec<Claim>,
-        watched: [usize; 2],
-        block: Derivation,
-        base: u32,
-    ) -> Option<u32> {
+    pub(crate) fn add(&mut self, clause: Clause) -> Option<u32> {
         let k = self.len()?;
-        self.lines = self.lines.saturating_add(block.lines.len());
-        let is_full = self.lines > MOST_BLOCK_LINES;
-        self.list
-            .push(Clause {
-                claims,
-                watched,
-                block,
-                base,
-            })
-            .ok()?;
-        if is_full {
+        self.lines = self.lines.saturating_add(clause.block.lines.len());
+        if self.lines > MOST_BLOCK_LINES {
             return None;
         }
+        self.list.push(clause).ok()?;
         self.watch_two(k)?;
         Some(k)
     }
 
     // One claim alone isn't watched, since it holds from then on.
     fn watch_two(&mut self, k: u32) -> Option<()> {
-        if self.claims(k)?.len() < 2 {
+        if self.get(k)?.claims.len() < 2 {
             return Some(());
         }
         let (first, second) = (self.watched(k, 0)?.watched(), self.watched(k, 1)?.watched());
@@ -84,17 +71,12 @@ impl Clauses {
         self.watching.get_mut(x as usize)?.push(k).ok()
     }
 
-    /// How many clauses wait for a change of this operation.
-    pub(crate) fn count(&self, x: u32) -> Option<usize> {
-        Some(self.watching.get(x as usize)?.len())
+    /// The clauses that wait for a change of this operation.
+    pub(crate) fn watching(&self, x: u32) -> Option<&[u32]> {
+        Some(self.watching.get(x as usize)?.as_slice())
     }
 
-    /// One of them, by its place.
-    pub(crate) fn watcher(&self, x: u32, at: usize) -> Option<u32> {
-        self.watching.get(x as usize)?.get(at).copied()
-    }
-
-    /// This one doesn't any more: the last one takes its place.
+    /// The one at this place doesn't any more: the last one takes its place.
     pub(crate) fn unwatch(&mut self, x: u32, at: usize) -> Option<()> {
         let list = self.watching.get_mut(x as usize)?;
         let last = list.pop()?;
@@ -104,33 +86,15 @@ impl Clauses {
         Some(())
     }
 
-    /// Where the two claims of a clause stand that are watched.
-    pub(crate) fn places(&self, k: u32) -> Option<[usize; 2]> {
-        Some(self.list.get(k as usize)?.watched)
-    }
-
-    /// One of these two.
+    /// One of the two claims of a clause that are watched.
     pub(crate) fn watched(&self, k: u32, which: usize) -> Option<Claim> {
-        let clause = self.list.get(k as usize)?;
+        let clause = self.get(k)?;
         clause.claims.get(*clause.watched.get(which)?).copied()
-    }
-
-    pub(crate) fn claims(&self, k: u32) -> Option<&[Claim]> {
-        Some(self.list.get(k as usize)?.claims.as_slice())
     }
 
     /// Another claim is watched in the place of this one of the two.
     pub(crate) fn watch_other(&mut self, k: u32, which: usize, place: usize) -> Option<()> {
         *self.list.get_mut(k as usize)?.watched.get_mut(which)? = place;
         Some(())
-    }
-
-    pub(crate) fn block(&self, k: u32) -> Option<&Derivation> {
-        Some(&self.list.get(k as usize)?.block)
-    }
-
-    /// From which step on nothing was known as its block was written.
-    pub(crate) fn base(&self, k: u32) -> Option<u32> {
-        Some(self.list.get(k as usize)?.base)
     }
 }

@@ -38,7 +38,7 @@ pub fn find_cycle(
     let given = Given::new(alloc, &part)?;
     let mut search = Search::new(alloc, Sought::Refutation, given, fuel)?;
     let conflict = refute(&mut search)?;
-    gather(alloc, &search, &conflict)
+    gather(&search, &conflict)
 }
 
 // Without cases first, since what is found so is short.
@@ -52,8 +52,8 @@ fn refute(search: &mut Search) -> Option<Conflict> {
 
 fn fuel_for(lengths: &Lengths) -> u64 {
     let mut fuel = LEAST_FUEL;
-    for p in 0..lengths.procs() {
-        let share = u64::from(lengths.get(p)).saturating_mul(FUEL);
+    for count in lengths.counts() {
+        let share = u64::from(*count).saturating_mul(FUEL);
         fuel = fuel.saturating_add(share);
     }
     fuel

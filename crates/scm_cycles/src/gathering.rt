@@ -5,7 +5,6 @@ use crate::drawn_steps::Need;
 use crate::lines::Lines;
 use crate::search::Search;
 use scm_orders::{Derivation, Fact, Line, Rule};
-use std::alloc::Global;
 
 /// In a block, this bit and the number of a step stand for the line of that step, outside of all blocks.
 const OUTSIDE: u32 = 1 << 31;
@@ -26,8 +25,8 @@ struct Gathering<'a> {
 /// The lines that end with an operation before itself, of all that the contradiction needs. Of one under suppositions that is the
 /// block that shows that not all of what contradicts itself is so: it names the lines outside of it by their steps, and the ends
 /// of earlier blocks by their clauses.
-pub(crate) fn gather(alloc: Global, search: &Search, conflict: &Conflict) -> Option<Derivation> {
-    let mut gathering = Gathering::new(alloc, search, conflict)?;
+pub(crate) fn gather(search: &Search, conflict: &Conflict) -> Option<Derivation> {
+    let mut gathering = Gathering::new(search, conflict)?;
     gathering.suppose()?;
     gathering.need_contradiction()?;
     gathering.need_all()?;
@@ -38,7 +37,8 @@ pub(crate) fn gather(alloc: Global, search: &Search, conflict: &Conflict) -> Opt
 }
 
 impl<'a> Gathering<'a> {
-    fn new(alloc: Global, search: &'a Search, conflict: &'a Conflict) -> Option<Gathering<'a>> {
+    fn new(search: &'a Search, conflict: &'a Conflict) -> Option<Gathering<'a>> {
+        let alloc = search.alloc;
         let count = conflict.contradiction.checked_add(1)? as usize;
         let clauses = search.clauses.len()? as usize;
         Some(Gathering {
@@ -107,8 +107,7 @@ impl<'a> Gathering<'a> {
     fn need_all(&mut self) -> Option<()> {
         let mut clauses = self.blocks()?;
         let count = self.conflict.contradiction.checked_add(1)?;
-        for back in 0..=count {
-            let left = count.checked_sub(back)?;
+        for left in (0..=count).rev() {
             clauses = self.need_blocks(clauses, left)?;
             if let Some(id) = left.checked_sub(1) {
                 self.need_all_of(id)?;
@@ -119,9 +118,8 @@ impl<'a> Gathering<'a> {
 
     // Marks what the blocks need that were written after so many steps. How many clauses are left.
     fn need_blocks(&mut self, clauses: u32, steps: u32) -> Option<u32> {
-        for back in 0..clauses {
-            let k = clauses.checked_sub(back)?.checked_sub(1)?;
-            if self.search.clauses.base(k)? < steps {
+        for k in (0..clauses).rev() {
+            if self.search.clauses.get(k)?.base < steps {
                 return k.checked_add(1);
             }
             if *self.is_clause_needed.get(k as usize)? {
@@ -132,7 +130,7 @@ impl<'a> Gathering<'a> {
     }
 
     fn need_block(&mut self, k: u32) -> Option<()> {
-        let block = self.search.clauses.block(k)?;
+        let block = &self.search.clauses.get(k)?.block;
         for line in &block.lines {
             if let Rule::Lemma { end } = line.rule {
                 *self.is_clause_needed.get_mut(end as usize)? = true;
@@ -175,7 +173,7 @@ impl<'a> Gathering<'a> {
     fn write_blocks(&mut self, clauses: u32, id: u32) -> Option<u32> {
         let count = self.blocks()?;
         for k in clauses..count {
-            if self.search.clauses.base(k)? > id {
+            if self.search.clauses.get(k)?.base > id {
                 return Some(k);
             }
             if *self.is_clause_needed.get(k as usize)? {
@@ -186,7 +184,7 @@ impl<'a> Gathering<'a> {
     }
 
     fn write_block(&mut self, k: u32) -> Option<()> {
-        let block = self.search.clauses.block(k)?;
+        let block = &self.search.clauses.get(k)?.block;
         let first = self.lines.len()?;
         self.lines.block = Some(first);
         for line in &block.lines {

@@ -28,8 +28,7 @@ impl Search {
         for x in 0..self.ops {
             if let Some(value) = self.given.values.found(x) {
                 self.burn(self.procs)?;
-                let cell = self.given.numbering.cell(x)?;
-                self.visit(x, cell, value)?;
+                self.visit(x, value)?;
             }
             if self.contradiction.is_some() {
                 break;
@@ -39,7 +38,8 @@ impl Search {
     }
 
     /// Draws what follows from what this read sees, or may see.
-    pub(crate) fn visit(&mut self, read: u32, cell: u32, value: u32) -> Option<()> {
+    pub(crate) fn visit(&mut self, read: u32, value: u32) -> Option<()> {
+        let cell = self.given.numbering.cell(read)?;
         if self.read_facts.source(read)?.is_none() {
             self.visit_open(read, cell, value)?;
         }
@@ -83,7 +83,7 @@ impl Search {
 
     // The read sees the one write that is left.
     fn settle_last(&mut self, view: &ReadView) -> Option<()> {
-        let (write, _) = view.shares.iter().filter_map(|share| share.left).next()?;
+        let (write, _) = view.shares.iter().find_map(|share| share.left)?;
         let claim = Claim::sees(write, view.read);
         let id = self.draw_by(view, claim, Rule::Source, Goal::Nothing)?;
         self.settle(claim, id)
@@ -145,9 +145,7 @@ impl Search {
         if owner == process {
             return None;
         }
-        self.given
-            .numbering
-            .number(process, self.given.writes.from(process, cell, place)?)
+        self.write_at(process, cell, place)
     }
 
     // Draws what follows from what is seen.

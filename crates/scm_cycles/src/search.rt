@@ -8,7 +8,7 @@ use crate::clauses::Clauses;
 use crate::drawn_steps::{DrawnSteps, Need};
 use crate::read_facts::ReadFacts;
 use crate::rises::Rises;
-use crate::trail::Trail;
+use crate::trail::Sizes;
 use crate::waiting::Waiting;
 use scm_clocks::{Clocks, Flags, Given, is_covered};
 use scm_orders::{Place, Rule};
@@ -49,7 +49,8 @@ pub(crate) struct Search {
     pub(crate) read_facts: ReadFacts,
     /// What is to be looked at again, once cases are tried.
     pub(crate) waiting: Waiting,
-    pub(crate) trail: Trail,
+    /// The sizes before each supposition.
+    pub(crate) trail: Vec<Sizes>,
     pub(crate) choices: Choices,
     pub(crate) clauses: Clauses,
     pub(crate) restarts: Restarts,
@@ -85,7 +86,7 @@ impl Search {
             ops,
             read_facts: ReadFacts::new(alloc, ops, cells)?,
             waiting: Waiting::new(alloc, ops)?,
-            trail: Trail::new(alloc),
+            trail: Vec::new(alloc),
             choices: Choices::new(alloc, ops)?,
             clauses: Clauses::new(alloc, ops)?,
             restarts: Restarts::FIRST,
@@ -161,11 +162,7 @@ impl Search {
     /// The steps that show what is needed, with the orders of processes.
     pub(crate) fn steps_of(&self, need: Need) -> Option<Vec<u32>> {
         match need {
-            Need::Step(id) => {
-                let mut steps = Vec::new(self.alloc);
-                steps.push(id).ok()?;
-                Some(steps)
-            }
+            Need::Step(id) => vec![in self.alloc; id].ok(),
             Need::Order { from, to } | Need::Hiding { from, to } => self.path(from, to),
             Need::Hidden { write, by, read } => {
                 let mut steps = self.path(write, by)?;
@@ -206,18 +203,12 @@ impl Search {
                 return Some(());
             };
             self.burn(self.procs)?;
-            self.check_room()?;
+            let changes = self.clocks.changes().checked_add(self.afters.changes())?;
+            let changes = changes.checked_add(self.candidates.changes())?;
+            self.most_changes.checked_sub(changes as u64)?;
             self.spread_from(x)?;
         }
         None
-    }
-
-    // `None` where too much would have to be taken back.
-    fn check_room(&self) -> Option<()> {
-        let changes = self.clocks.changes().checked_add(self.afters.changes())?;
-        let changes = changes.checked_add(self.candidates.changes())?;
-        self.most_changes.checked_sub(changes as u64)?;
-        Some(())
     }
 
     fn spread_from(&mut self, x: u32) -> Option<()> {
@@ -241,11 +232,7 @@ impl Search {
             return Some(());
         }
         for process in 0..self.procs {
-            let count = if process == owner {
-                at.checked_add(1)?
-            } else {
-                self.before(x, process)?
-            };
+            let count = self.up_to(x, process)?;
             if self.before(y, process)? < count {
                 self.raise(y, process, count, id)?;
             }

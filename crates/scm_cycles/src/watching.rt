@@ -5,11 +5,11 @@ impl Search {
     /// Looks at the clauses that wait for a change of this operation.
     pub(crate) fn review_all(&mut self, x: u32) -> Option<()> {
         let mut at = 0usize;
-        for _ in 0..self.clauses.count(x)? {
+        for _ in 0..self.clauses.watching(x)?.len() {
             if self.contradiction.is_some() {
                 break;
             }
-            let k = self.clauses.watcher(x, at)?;
+            let k = *self.clauses.watching(x)?.get(at)?;
             self.burn(1)?;
             if self.review(k, x)? {
                 self.clauses.unwatch(x, at)?;
@@ -43,11 +43,11 @@ impl Search {
 
     // A claim that isn't watched and isn't false.
     fn other_open(&mut self, k: u32) -> Option<Option<usize>> {
-        let count = self.clauses.claims(k)?.len();
+        let count = self.clauses.get(k)?.claims.len();
         self.burn(u32::try_from(count).ok()?)?;
-        let watched = self.clauses.places(k)?;
-        for (place, claim) in self.clauses.claims(k)?.iter().enumerate() {
-            if !watched.contains(&place) && !self.is_false(*claim)? {
+        let clause = self.clauses.get(k)?;
+        for (place, claim) in clause.claims.iter().enumerate() {
+            if !clause.watched.contains(&place) && !self.is_false(*claim)? {
                 return Some(Some(place));
             }
         }
