@@ -100,14 +100,11 @@ impl Search {
                 from: *from,
                 to: view.read,
             },
-            None => Need::Step(self.first_ruled_out(view.read, view.cell)?),
+            None => {
+                let telling = self.read_facts.first(view.cell)?.map(|(_, id)| id);
+                Need::Step(self.unseen_first(view.read)?.or(telling)?)
+            }
         };
         needs.push(need).ok()
-    }
-
-    // The step that tells that the read doesn't see first contents, or what they are.
-    fn first_ruled_out(&self, read: u32, cell: u32) -> Option<u32> {
-        let telling = self.read_facts.first(cell)?.map(|(_, id)| id);
-        self.unseen_first(read)?.or(telling)
     }
 }

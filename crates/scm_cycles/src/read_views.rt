@@ -62,10 +62,8 @@ impl Search {
 
     /// Whether a read of this value may see first contents, where no write is known to come before it.
     pub(crate) fn may_see_first(&self, read: u32, cell: u32, value: u32) -> Option<bool> {
-        let known = match self.given.values.first(cell)? {
-            Some(first) => Some(first),
-            None => self.read_facts.first(cell)?.map(|(first, _)| first),
-        };
+        let told = self.read_facts.first(cell)?.map(|(first, _)| first);
+        let known = self.given.values.first(cell)?.or(told);
         Some(known.is_none_or(|first| first == value) && self.unseen_first(read)?.is_none())
     }
 

@@ -227,8 +227,7 @@ impl Search {
 
     // Puts `y` after `x` and all that comes before it, by this step.
     fn absorb(&mut self, y: u32, x: u32, id: u32) -> Option<()> {
-        let (owner, at) = self.given.numbering.spot(x)?;
-        if self.before(y, owner)? > at && is_covered(self.clocks.row(x)?, self.clocks.row(y)?) {
+        if self.is_before(x, y)? && is_covered(self.clocks.row(x)?, self.clocks.row(y)?) {
             return Some(());
         }
         for process in 0..self.procs {
