@@ -196,7 +196,8 @@ impl Search {
         Some(id)
     }
 
-    // Brings what is new of the clocks that are flagged to those after them.
+    // Brings what is new of the clocks that are flagged to those after them. `None` also where too much would have to be taken
+    // back.
     fn spread(&mut self) -> Option<()> {
         for _ in 0..self.fuel {
             let Some(x) = self.flags.next() else {
