@@ -3,7 +3,7 @@ use crate::facts::Facts;
 use crate::order::Order;
 use crate::proposal::Proposer;
 use crate::skew::{SKEWS, skewed_clocks};
-use crate::sources::single_sources;
+use crate::sources::with_single_sources;
 use scm_clocks::{Clocks, Given, Part};
 use scm_cycles::{Guess, find_sources};
 use std::ops::Range;
@@ -71,13 +71,8 @@ impl Proposer<'_> {
     }
 
     // These orders with all that follows from single sources, where the fuel is enough.
-    fn saturated(&self, mut given: Given, clocks: Clocks, fuel: &mut u64) -> Option<Order> {
-        let sources = single_sources(self.alloc, &mut given)?;
-        let guess = Guess {
-            given,
-            sources,
-            clocks,
-        };
+    fn saturated(&self, given: Given, clocks: Clocks, fuel: &mut u64) -> Option<Order> {
+        let guess = with_single_sources(self.alloc, given, clocks)?;
         let mut order = Order::new(self.alloc, guess)?;
         order.fuel = *fuel / price_of(1, &order).max(1);
         let end = order.spread();

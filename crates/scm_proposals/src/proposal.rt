@@ -5,7 +5,7 @@ use crate::guessing::price_of;
 use crate::guided_walk::GuidedWalk;
 use crate::order::Order;
 use crate::skew::SKEWS;
-use crate::sources::single_sources;
+use crate::sources::with_single_sources;
 use scm_clocks::{Clocks, Given, Part};
 use scm_cycles::Guess;
 use scm_sequences::{Lengths, Sequences};
@@ -222,14 +222,10 @@ impl Proposer<'_> {
 
     /// A walk that goes on from these places.
     fn walk(&self, kept: &[u8]) -> Option<GuidedWalk> {
-        let mut given = self.given(kept)?;
-        let sources = single_sources(self.alloc, &mut given)?;
+        let given = self.given(kept)?;
         let clocks = Clocks::new(self.alloc, &given.numbering)?;
-        self.walk_by(Guess {
-            given,
-            sources,
-            clocks,
-        })
+        let guess = with_single_sources(self.alloc, given, clocks)?;
+        self.walk_by(guess)
     }
 
     // A walk in which reads have these sources, and that keeps these orders.

@@ -1,20 +1,29 @@
 //! Where reads have their values from.
-use scm_clocks::Given;
+use scm_clocks::{Clocks, Given};
+use scm_cycles::Guess;
 use std::alloc::Global;
 
-/// The sources of reads whose value has one writer: each an operation, or the number of a cell after those of the operations, for
-/// first contents. `None` also where a value that is read has no writer. An open cell has at first a value that is read and that
-/// nobody writes.
-pub(crate) fn single_sources(alloc: Global, given: &mut Given) -> Option<Vec<Option<u32>>> {
+/// These orders, and the sources of reads whose value has one writer: each an operation, or the number of a cell after those of the
+/// operations, for first contents. `None` also where a value that is read has no writer. An open cell has at first a value that is
+/// read and that nobody writes.
+pub(crate) fn with_single_sources(
+    alloc: Global,
+    mut given: Given,
+    clocks: Clocks,
+) -> Option<Guess> {
     let mut sources = Vec::new(alloc);
     for x in 0..given.numbering.len()? {
         let source = match given.values.found(x) {
-            Some(value) => single_source(given, x, value)?,
+            Some(value) => single_source(&mut given, x, value)?,
             None => None,
         };
         sources.push(source).ok()?;
     }
-    Some(sources)
+    Some(Guess {
+        given,
+        sources,
+        clocks,
+    })
 }
 
 fn single_source(given: &mut Given, x: u32, value: u32) -> Option<Option<u32>> {
