@@ -15,6 +15,42 @@ const PARTS: u64 = 10;
 
 const LEAST_SKEW: u64 = 3;
 
+/// How far a process may be behind another that made so many operations, by a multiple of the root that is given in tenths. A root
+/// takes long: those of the first numbers are taken once.
+#[derive(Drop)]
+struct Skews {
+    tenths: u64,
+    firsts: Vec<u64>,
+}
+
+impl Skews {
+    // For a part, with as many roots as it has operations at most.
+    fn new(alloc: Global, given: &Given, tenths: u64) -> Option<Skews> {
+        let longest = given.trace_lengths.iter().copied().max()?;
+        let mut firsts = Vec::new(alloc);
+        for made in 0..given.numbering.len()?.min(longest) {
+            firsts.push(skew_at(u64::from(made), tenths)?).ok()?;
+        }
+        Some(Skews { tenths, firsts })
+    }
+
+    fn at(&self, made: u64) -> Option<u64> {
+        match self.firsts.get(made as usize) {
+            Some(skew) => Some(*skew),
+            None => skew_at(made, self.tenths),
+        }
+    }
+}
+
+fn skew_at(made: u64, tenths: u64) -> Option<u64> {
+    tenths
+        .checked_mul(tenths)?
+        .checked_mul(made)?
+        .isqrt()
+        .checked_div(PARTS)?
+        .checked_add(LEAST_SKEW)
+}
+
 /// The orders by which no process is ahead of another by more than a multiple of the root of how many operations it made: that of
 /// the skew of this number, each larger than the one before by the first one over `divisor`; from `SKEWS` on the order of each
 /// process alone.
@@ -28,9 +64,9 @@ pub(crate) fn skewed_clocks(
     if number < SKEWS {
         let first = first_skew(given)?;
         let growth = first.saturating_mul(number).checked_div(divisor)?;
-        let tenths = first.saturating_add(growth);
+        let skews = Skews::new(alloc, given, first.saturating_add(growth))?;
         for x in 0..given.numbering.len()? {
-            suppose_at(&mut clocks, given, x, tenths)?;
+            suppose_at(&mut clocks, given, x, &skews)?;
         }
     }
     Some(clocks)
@@ -56,12 +92,12 @@ fn first_skew(given: &Given) -> Option<u64> {
 }
 
 // At least so many operations of each process come before `x`.
-fn suppose_at(clocks: &mut Clocks, given: &Given, x: u32, tenths: u64) -> Option<()> {
+fn suppose_at(clocks: &mut Clocks, given: &Given, x: u32, skews: &Skews) -> Option<()> {
     let (owner, place) = given.numbering.spot(x)?;
     let length = *given.trace_lengths.get(owner as usize)?;
     for process in 0..given.numbering.procs()? {
         let other = *given.trace_lengths.get(process as usize)?;
-        let count = least_count(place, length, other, tenths)?.min(given.numbering.count(process)?);
+        let count = least_count(place, length, other, skews)?.min(given.numbering.count(process)?);
         if process != owner {
             clocks.set(x, process, count)?;
         }
@@ -70,15 +106,9 @@ fn suppose_at(clocks: &mut Clocks, given: &Given, x: u32, tenths: u64) -> Option
 }
 
 // How many operations of a process of `other` operations come before the one at a place of a process of `length`.
-fn least_count(place: u32, length: u32, other: u32, tenths: u64) -> Option<u32> {
+fn least_count(place: u32, length: u32, other: u32, skews: &Skews) -> Option<u32> {
     let alike = u64::from(place)
         .checked_mul(u64::from(other))?
         .checked_div(u64::from(length))?;
-    let skew = tenths
-        .checked_mul(tenths)?
-        .checked_mul(alike)?
-        .isqrt()
-        .checked_div(PARTS)?
-        .checked_add(LEAST_SKEW)?;
-    u32::try_from(alike.saturating_sub(skew)).ok()
+    u32::try_from(alike.saturating_sub(skews.at(alike)?)).ok()
 }
