@@ -112,6 +112,11 @@ def three_values_in_four_thousand_operations():
     return what_a_memory_did(4, 4_000, 8, lambda draws, _: draws.randrange(3))
 
 
+def six_values_under_eight_processes():
+    """The times of operations are aligned: by even ones nothing is found."""
+    return what_a_memory_did(8, 1_600, 8, lambda draws, _: draws.randrange(6))
+
+
 def two_processes_by_turns():
     """Two processes store and load by turns, which has more situations than any budget; reported one after the other."""
     yield from opened(2, 1, ["x"])
@@ -124,7 +129,8 @@ def two_processes_by_turns():
 ROWS = [
     a_long_process, thousands_of_situations, seventy_thousand_situations, situations_that_need_more_room,
     situations_that_outgrow_words,
-    eight_processes_of_a_thousand_operations, three_values_in_four_thousand_operations, two_processes_by_turns,
+    eight_processes_of_a_thousand_operations, three_values_in_four_thousand_operations,
+    six_values_under_eight_processes, two_processes_by_turns,
 ]
 
 

@@ -1,6 +1,7 @@
 //! What a search begins with.
 use crate::numbering::Numbering;
 use crate::part::Part;
+use crate::times::Times;
 use crate::values::Values;
 use crate::writers::Writers;
 use crate::writes::Writes;
@@ -13,8 +14,8 @@ pub struct Given {
     pub values: Values,
     pub writes: Writes,
     pub writers: Writers,
-    /// How many operations each process has in the whole trace.
-    pub trace_lengths: Vec<u32>,
+    /// When each operation was made, as a guess, from the earliest one on.
+    pub times: Vec<u32>,
 }
 
 impl Given {
@@ -25,16 +26,22 @@ impl Given {
         let cells = u32::try_from(part.contents.len()).ok()?;
         let writes = Writes::new(alloc, cells, &numbering, &values)?;
         let writers = Writers::new(alloc, &numbering, &values)?;
-        let mut trace_lengths = Vec::new(alloc);
-        for count in part.trace_lengths {
-            trace_lengths.push(*count).ok()?;
-        }
+        let times = Times::of_part(alloc, part)?;
         Some(Given {
             numbering,
             values,
             writes,
             writers,
-            trace_lengths,
+            times,
         })
+    }
+
+    /// How many values a cell has, in the mean.
+    pub fn values_of_cell(&self) -> Option<u32> {
+        let cells = u32::try_from(self.values.firsts().len()).ok()?;
+        self.values
+            .count()
+            .saturating_add(1)
+            .checked_div(cells.max(1))
     }
 }

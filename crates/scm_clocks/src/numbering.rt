@@ -45,6 +45,11 @@ impl Numbering {
         u32::try_from(self.counts.len()).ok()
     }
 
+    /// How many operations the process has that has most.
+    pub fn longest(&self) -> Option<u32> {
+        self.counts.iter().copied().max()
+    }
+
     /// How many operations there are.
     pub fn len(&self) -> Option<u32> {
         u32::try_from(self.ops.len()).ok()

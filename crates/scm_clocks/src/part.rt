@@ -1,4 +1,5 @@
 //! A part of a trace.
+use crate::times::Times;
 use scm_sequences::Sequences;
 
 /// The operations of each process from so many that it has made up to an end, where the cells hold this (`None` is an open
@@ -10,8 +11,8 @@ pub struct Part<'a> {
     pub made: &'a [u32],
     pub ends: &'a [u32],
     pub checked: u32,
-    /// How many operations each process has in the whole trace.
-    pub trace_lengths: &'a [u32],
+    /// Those of the whole trace.
+    pub times: &'a Times,
 }
 
 impl Part<'_> {

@@ -23,8 +23,8 @@ struct Counts {
     rows: Grid,
 }
 
-// How many of these numbers, which rise, are less than `bound`.
-pub(crate) fn count_below(numbers: &[u32], bound: u32) -> usize {
+/// How many of these numbers, which rise, are less than `bound`.
+pub fn count_below(numbers: &[u32], bound: u32) -> usize {
     let (mut low, mut high) = (0, numbers.len());
     for _ in 0..numbers.len() {
         if low >= high {

@@ -3,9 +3,6 @@ use crate::claims::Claim;
 use crate::read_views::part;
 use crate::search::{Search, Sought};
 
-/// What a place's share of its process is counted in.
-const WHOLE: u64 = 1 << 20;
-
 /// For how many reads that are looked at one step is burnt.
 const READS_OF_STEP: u32 = 8;
 
@@ -62,11 +59,8 @@ impl Search {
         Some(share / over.max(1))
     }
 
-    // Which share of its process comes before an operation.
-    fn progress(&self, x: u32) -> Option<u64> {
-        let (process, at) = self.given.numbering.spot(x)?;
-        let count = u64::from(self.given.numbering.count(process)?).max(1);
-        Some(u64::from(at).saturating_mul(WHOLE) / count)
+    fn time(&self, x: u32) -> Option<u64> {
+        Some(u64::from(*self.given.times.get(x as usize)?))
     }
 
     // What was seen last, if it is left, else what is nearest.
@@ -83,7 +77,7 @@ impl Search {
         self.narrow(read, cell, value)?;
         let mut best = None;
         if self.candidates.is_first_left(read)? {
-            let far = self.progress(read)?;
+            let far = self.time(read)?;
             let claim = Claim::sees_first(read);
             offer(&mut best, claim, u64::MAX.saturating_sub(far));
         }
@@ -101,12 +95,12 @@ impl Search {
         read: u32,
         left: &[u32],
     ) -> Option<()> {
-        let here = self.progress(read)?;
+        let here = self.time(read)?;
         for write in left {
             if self.unseen(*write, read)?.is_some() {
                 continue;
             }
-            let there = self.progress(*write)?;
+            let there = self.time(*write)?;
             let far = if there > here {
                 there.saturating_sub(here).saturating_mul(3)
             } else {
@@ -136,7 +130,7 @@ impl Search {
         for process in 0..self.procs {
             if let Some(x) = self.between(seen, process)? {
                 let weight = self.choices.share(seen.to)?.max(self.choices.share(x)?);
-                let is_early = self.progress(x)? < self.progress(seen.from)?;
+                let is_early = self.time(x)? < self.time(seen.from)?;
                 let claim = if is_early {
                     Claim::before(x, seen.from)
                 } else {

@@ -2,7 +2,7 @@
 use crate::conflict::Conflict;
 use crate::gathering::gather;
 use crate::search::{Search, Sought};
-use scm_clocks::{Given, Part};
+use scm_clocks::{Given, Part, Times};
 use scm_orders::Derivation;
 use scm_sequences::{Lengths, Sequences};
 use std::alloc::Global;
@@ -27,13 +27,14 @@ pub fn find_cycle(
 ) -> Option<Derivation> {
     let fuel = fuel_for(lengths);
     let none = vec![in alloc; 0; lengths.procs()].ok()?;
+    let times = Times::even(alloc, lengths.counts())?;
     let part = Part {
         contents: initials,
         sequences,
         made: none.as_slice(),
         ends: lengths.counts(),
         checked: u32::MAX,
-        trace_lengths: lengths.counts(),
+        times: &times,
     };
     let given = Given::new(alloc, &part)?;
     let mut search = Search::new(alloc, Sought::Refutation, given, fuel)?;

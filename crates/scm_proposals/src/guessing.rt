@@ -2,7 +2,7 @@
 use crate::facts::Facts;
 use crate::order::Order;
 use crate::proposal::Proposer;
-use crate::skew::{SKEWS, skewed_clocks};
+use crate::skew::{Base, SKEWS, skewed_clocks};
 use crate::sources::with_single_sources;
 use scm_clocks::{Clocks, Given, Part};
 use scm_cycles::{Guess, find_sources};
@@ -25,13 +25,12 @@ pub(crate) fn price_of(visits: u64, order: &Order) -> u64 {
 }
 
 impl Proposer<'_> {
-    /// What reads may see in a part, and under which skew: of those of these numbers the first one that has something, each larger
-    /// than the one before by the first one over `divisor`.
+    /// What reads may see in a part, and under which skew: of those of these numbers the first one that has something.
     pub(crate) fn guess(
         &self,
         part: &Part,
         skew_numbers: Range<u64>,
-        divisor: u64,
+        base: Base,
         fuel: &mut u64,
     ) -> Option<(Guess, u64)> {
         for skew_number in skew_numbers {
@@ -44,7 +43,7 @@ impl Proposer<'_> {
                 return None;
             }
             let mut left = share;
-            let guess = self.guess_under(part, skew_number, divisor, &mut left);
+            let guess = self.guess_under(part, skew_number, base, &mut left);
             *fuel = fuel.saturating_sub(share.saturating_sub(left));
             if let Some(guess) = guess {
                 return Some((guess, skew_number));
@@ -57,11 +56,11 @@ impl Proposer<'_> {
         &self,
         part: &Part,
         skew_number: u64,
-        divisor: u64,
+        base: Base,
         fuel: &mut u64,
     ) -> Option<Guess> {
         let given = Given::new(self.alloc, part)?;
-        let clocks = skewed_clocks(self.alloc, &given, skew_number, divisor)?;
+        let clocks = skewed_clocks(self.alloc, &given, skew_number, base)?;
         if given.numbering.len()? <= MOST_OF_SMALL {
             return find_sources(self.alloc, given, clocks, fuel);
         }

@@ -3,6 +3,7 @@
 //! `scm_schedules::is_legal` is the judge.
 #![tactic(auto)]
 
+mod alignment;
 mod beginning;
 mod choosing;
 mod ending;
@@ -10,6 +11,7 @@ mod facts;
 mod fuel;
 mod guessing;
 mod guided_walk;
+mod nearby;
 mod numbers;
 mod order;
 mod proposal;

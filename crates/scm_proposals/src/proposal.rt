@@ -4,9 +4,9 @@ use crate::fuel::{fuel_after_walks, fuel_of_search};
 use crate::guessing::price_of;
 use crate::guided_walk::GuidedWalk;
 use crate::order::Order;
-use crate::skew::SKEWS;
+use crate::skew::{Base, SKEWS};
 use crate::sources::with_single_sources;
-use scm_clocks::{Clocks, Given, Part};
+use scm_clocks::{Clocks, Given, Part, Times};
 use scm_cycles::Guess;
 use scm_sequences::{Lengths, Sequences};
 use std::alloc::Global;
@@ -27,6 +27,11 @@ const FIRST_PARTS: u64 = 3;
 /// By which part of the first skew those of a whole trace grow.
 const SKEW_DIVISOR: u64 = 5;
 
+/// How many values a cell has at least, in the mean, of a trace whose times are aligned, and which part of the fuel that may burn.
+const LEAST_VALUES: u32 = 4;
+
+const ALIGNING_PARTS: u64 = 2;
+
 /// How many places of an earlier schedule are put together anew when all of it can't be kept: at first so many, then
 /// each time so many times more.
 const SHORTEST_TAIL: usize = 64;
@@ -41,6 +46,7 @@ pub(crate) struct Proposer<'a> {
     pub(crate) sequences: &'a Sequences,
     pub(crate) lengths: &'a Lengths,
     limit: usize,
+    times: Times,
 }
 
 /// A schedule for the trace with these first contents (`None` is an open cell) and these sequences, cut to these
@@ -82,6 +88,7 @@ pub fn propose_by_walks(
         sequences,
         lengths,
         limit,
+        times: Times::none(alloc),
     };
     proposer.complete_earlier(earlier, fuel_of_search(lengths, room))
 }
@@ -96,16 +103,17 @@ pub fn propose_by_search(
     limit: usize,
     fuel: u64,
 ) -> Option<Vec<u8>> {
-    let proposer = Proposer {
+    if fuel == 0 {
+        return None;
+    }
+    let mut proposer = Proposer {
         alloc,
         initials,
         sequences,
         lengths,
         limit,
+        times: Times::even(alloc, lengths.counts())?,
     };
-    if fuel == 0 {
-        return None;
-    }
     proposer.complete_by_search(fuel)
 }
 
@@ -130,12 +138,12 @@ impl Proposer<'_> {
             made: beginning.counts.as_slice(),
             ends,
             checked,
-            trace_lengths: self.lengths.counts(),
+            times: &self.times,
         }
     }
 
     /// All operations after these places of a schedule.
-    fn given(&self, kept: &[u8]) -> Option<Given> {
+    pub(crate) fn given(&self, kept: &[u8]) -> Option<Given> {
         let beginning = self.beginning(kept)?;
         let part = self.part(&beginning, self.lengths.counts(), u32::MAX);
         Given::new(self.alloc, &part)
@@ -172,7 +180,7 @@ impl Proposer<'_> {
     }
 
     /// A schedule that is made from nothing, by all but a walk alone.
-    fn complete_by_search(&self, fuel: u64) -> Option<Vec<u8>> {
+    fn complete_by_search(&mut self, fuel: u64) -> Option<Vec<u8>> {
         let all = fuel_after_walks(self.lengths, self.initials.len(), fuel);
         let mut left = all;
         let has_windows = self.has_windows()?;
@@ -187,6 +195,14 @@ impl Proposer<'_> {
         if let Some(schedule) = self.complete_by_turns(&mut left) {
             return Some(schedule);
         }
+        if self.is_to_be_aligned(has_windows)? {
+            let mut part = left / ALIGNING_PARTS;
+            left = left.saturating_sub(part);
+            if let Some(times) = self.aligned_times(&mut part) {
+                self.times = times;
+            }
+            left = left.saturating_add(part);
+        }
         if has_windows && let Some(schedule) = self.complete_by_windows(&mut left) {
             return Some(schedule);
         }
@@ -195,12 +211,34 @@ impl Proposer<'_> {
         self.complete_by_sources(&mut rest)
     }
 
+    // From which times skews are reckoned.
+    pub(crate) fn base(&self, divisor: u64) -> Base {
+        if self.times.are_aligned {
+            Base::Aligned
+        } else {
+            Base::Even { divisor }
+        }
+    }
+
+    // Whether times are aligned: where cells have several values, but too few for the number of processes.
+    fn is_to_be_aligned(&self, has_windows: bool) -> Option<bool> {
+        let procs = u32::try_from(self.lengths.procs()).ok()?;
+        let end = if has_windows {
+            procs.saturating_mul(3) / 4
+        } else {
+            procs.saturating_mul(2)
+        };
+        Some((LEAST_VALUES..end).contains(&self.given(&[])?.values_of_cell()?))
+    }
+
     // A schedule by a walk in which each read has the source that a search chose. The search's orders aren't kept, since they may
     // need its skew.
     fn complete_by_sources(&self, fuel: &mut u64) -> Option<Vec<u8>> {
         let nothing = self.beginning(&[])?;
         let part = self.part(&nothing, self.lengths.counts(), u32::MAX);
-        let guess = self.guess(&part, 0..SKEWS + 1, SKEW_DIVISOR, fuel)?.0;
+        let guess = self
+            .guess(&part, 0..SKEWS + 1, self.base(SKEW_DIVISOR), fuel)?
+            .0;
         let clocks = Clocks::new(self.alloc, &guess.given.numbering)?;
         self.complete_by(Guess { clocks, ..guess }, fuel)
     }

@@ -149,7 +149,12 @@ impl Proposer<'_> {
         let ops = part.size() / (part.ends.len() as u64).max(1);
         let most = ops.saturating_mul(WINDOW_FUEL).min(*fuel);
         let mut left = most;
-        let guess = self.guess(part, skew_number..SKEWS, WINDOW_SKEW_DIVISOR, &mut left);
+        let guess = self.guess(
+            part,
+            skew_number..SKEWS,
+            self.base(WINDOW_SKEW_DIVISOR),
+            &mut left,
+        );
         *fuel = fuel.saturating_sub(most.saturating_sub(left));
         guess
     }

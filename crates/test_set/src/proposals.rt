@@ -91,6 +91,13 @@ const LONG_TURNS: Size = Size {
     turn: 100,
 };
 
+const EIGHT_PROCESSES: Size = Size {
+    processes: 8,
+    cells: 8,
+    values: 6,
+    turn: 1,
+};
+
 /// What a memory did, whose cells the processes accessed as it came, so many times.
 fn of_size(rt: &impl Abort, alloc: Global, size: Size, seed: u64, accesses: u16) -> Sequences {
     let mut dice = Dice::new(seed);
@@ -154,6 +161,12 @@ fn turns_are_searched(rt: HostRuntime) {
     for seed in [1, 3, 4] {
         assert!(rt; decides(&rt, rt.alloc(), LONG_TURNS, seed, 900, 60_000));
     }
+}
+
+/// By even times no schedule of this is found: they are aligned.
+#[test]
+fn times_are_aligned(rt: HostRuntime) {
+    assert!(rt; decides(&rt, rt.alloc(), EIGHT_PROCESSES, 16, 1_000, 1_000_000));
 }
 
 /// The fuel ends in the walk, before the search, under a skew, and where none is supposed any more.
