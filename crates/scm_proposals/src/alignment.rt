@@ -19,7 +19,7 @@ const REACH: u32 = 32;
 /// The time of an operation is the mean of its own and those of so many before and after it, at least.
 const LEAST_RADIUS: u32 = 8;
 
-/// How much speaks against each span between the first operation of a process and the last one.
+/// How much speaks for each span before the first operation of a process, and after the last one.
 const PRICE_OF_SPAN: u64 = 40;
 
 /// How many steps are made for each unit of fuel.
@@ -33,7 +33,6 @@ struct Alignment<'a> {
     lists: Vec<Vec<u32>>,
     longest: u32,
     spans: u32,
-    steps: u64,
 }
 
 /// How much speaks for the best times of some operations of a process, by the span of the last one, from `first` on.
@@ -43,9 +42,41 @@ struct Sums {
     list: Vec<u64>,
 }
 
+/// The fuel that it burns to align the times of these operations.
+pub(crate) fn price_of_aligning(given: &Given) -> Option<u64> {
+    let ops = u64::from(given.numbering.len()?);
+    let procs = u64::from(given.numbering.procs()?);
+    let divisions = divisions_of(given)?;
+    let spans = u64::from(FIRST_SPANS.checked_shl(divisions)?);
+    // For each operation the spans that it is moved to, and for each process all operations and counts.
+    let moves = ops.saturating_mul(u64::from(REACH).saturating_mul(2).saturating_add(procs));
+    let counts = u64::from(given.values.count())
+        .saturating_mul(spans)
+        .saturating_mul(2);
+    let steps = moves
+        .saturating_mul(u64::from(divisions))
+        .saturating_add(procs.saturating_mul(counts));
+    Some(steps.saturating_mul(u64::from(SWEEPS)) / STEPS_OF_FUEL)
+}
+
+// How often the time is divided into spans.
+fn divisions_of(given: &Given) -> Option<u32> {
+    let longest = given.numbering.longest()?;
+    let (mut spans, mut divisions) = (FIRST_SPANS, 1u32);
+    for _ in 0..u32::BITS {
+        let next = spans.saturating_mul(2);
+        if spans >= longest || given.values.count().saturating_mul(next) > MOST_COUNTS {
+            break;
+        }
+        spans = next;
+        divisions = divisions.saturating_add(1);
+    }
+    Some(divisions)
+}
+
 impl Proposer<'_> {
-    /// The times at which what operations found and wrote fits best, where the fuel is enough.
-    pub(crate) fn aligned_times(&self, fuel: &mut u64) -> Option<Times> {
+    /// The times at which what operations found and wrote fits best.
+    pub(crate) fn aligned_times(&self) -> Option<Times> {
         let given = self.given(&[])?;
         let mut alignment = Alignment {
             alloc: self.alloc,
@@ -53,11 +84,13 @@ impl Proposer<'_> {
             lists: Times::even(self.alloc, self.lengths.counts())?.lists,
             longest: given.numbering.longest()?,
             spans: FIRST_SPANS,
-            steps: fuel.saturating_mul(STEPS_OF_FUEL),
         };
-        let end = alignment.align();
-        *fuel = alignment.steps / STEPS_OF_FUEL;
-        end?;
+        for _ in 0..divisions_of(&given)? {
+            for _ in 0..SWEEPS {
+                alignment.move_all()?;
+            }
+            alignment.spans = alignment.spans.saturating_mul(2);
+        }
         Some(Times {
             lists: alignment.lists,
             are_aligned: true,
@@ -66,23 +99,6 @@ impl Proposer<'_> {
 }
 
 impl Alignment<'_> {
-    fn align(&mut self) -> Option<()> {
-        for _ in 0..u32::BITS {
-            let counts = self.given.values.count().saturating_mul(self.spans);
-            if counts > MOST_COUNTS {
-                break;
-            }
-            for _ in 0..SWEEPS {
-                self.move_all()?;
-            }
-            if self.spans >= self.longest {
-                break;
-            }
-            self.spans = self.spans.saturating_mul(2);
-        }
-        Some(())
-    }
-
     fn move_all(&mut self) -> Option<()> {
         for process in 0..self.given.numbering.procs()? {
             if let Some(first) = self.given.numbering.number(process, 0) {
@@ -106,9 +122,8 @@ impl Alignment<'_> {
     }
 
     // What the other processes wrote and found.
-    fn nearby(&mut self, process: u32) -> Option<Nearby> {
+    fn nearby(&self, process: u32) -> Option<Nearby> {
         let mut nearby = Nearby::new(self.alloc, self.given, self.spans)?;
-        self.burn(nearby.size())?;
         for x in 0..self.given.numbering.len()? {
             let (owner, _) = self.given.numbering.spot(x)?;
             if owner != process {
@@ -149,8 +164,7 @@ impl Alignment<'_> {
     }
 
     // With one operation more. The ways note, for each of its spans, that of the one before by its place in the list.
-    fn add(&mut self, sums: &Sums, x: u32, nearby: &Nearby, ways: &mut Vec<u8>) -> Option<Sums> {
-        self.burn(u64::from(self.width()))?;
+    fn add(&self, sums: &Sums, x: u32, nearby: &Nearby, ways: &mut Vec<u8>) -> Option<Sums> {
         let best = self.best_so_far(sums)?;
         let (first, last) = (self.first_span(x)?, self.width().saturating_sub(1));
         let mut list = Vec::new(self.alloc);
@@ -217,11 +231,6 @@ impl Alignment<'_> {
             let mean = doubled_sum(around)?.saturating_mul(u64::from(WHOLE_TIME)) / doubled;
             *time = u32::try_from(mean.checked_div(around.len() as u64)?).ok()?;
         }
-        Some(())
-    }
-
-    fn burn(&mut self, steps: u64) -> Option<()> {
-        self.steps = self.steps.checked_sub(steps)?;
         Some(())
     }
 }

@@ -87,11 +87,6 @@ impl Nearby {
         Some(nearby)
     }
 
-    /// How many counts there are.
-    pub(crate) fn size(&self) -> u64 {
-        u64::from(self.writes.rows).saturating_mul(u64::from(self.writes.spans))
-    }
-
     /// Adds an operation that was made in this span, before all are summed up.
     pub(crate) fn add(&mut self, given: &Given, x: u32, span: u32) -> Option<()> {
         let row = row_of(given, x)?;

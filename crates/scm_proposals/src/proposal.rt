@@ -1,4 +1,5 @@
 //! A proposal for a schedule.
+use crate::alignment::price_of_aligning;
 use crate::beginning::Beginning;
 use crate::fuel::{fuel_after_walks, fuel_of_search};
 use crate::guessing::price_of;
@@ -27,10 +28,15 @@ const FIRST_PARTS: u64 = 3;
 /// By which part of the first skew those of a whole trace grow.
 const SKEW_DIVISOR: u64 = 5;
 
-/// How many values a cell has at least, in the mean, of a trace whose times are aligned, and which part of the fuel that may burn.
+/// How many values a cell has at least, in the mean, of a trace whose times are aligned; which part of the fuel that burns at most,
+/// with windows and without; and which part a search by even times gets before.
 const LEAST_VALUES: u32 = 4;
 
-const ALIGNING_PARTS: u64 = 2;
+const ALIGNING_PARTS_OF_WINDOWS: u64 = 2;
+
+const ALIGNING_PARTS: u64 = 8;
+
+const EVEN_PARTS: u64 = 8;
 
 /// How many places of an earlier schedule are put together anew when all of it can't be kept: at first so many, then
 /// each time so many times more.
@@ -184,24 +190,25 @@ impl Proposer<'_> {
         let all = fuel_after_walks(self.lengths, self.initials.len(), fuel);
         let mut left = all;
         let has_windows = self.has_windows()?;
-        if has_windows && self.has_few_writers()? {
-            let mut part = all / FIRST_PARTS;
-            left = left.saturating_sub(part);
-            if let Some(schedule) = self.complete_by_sources(&mut part) {
-                return Some(schedule);
-            }
-            left = left.saturating_add(part);
+        let alignment = self.alignment(has_windows, fuel)?;
+        let mut part = if has_windows && self.has_few_writers()? {
+            all / FIRST_PARTS
+        } else if !has_windows && alignment.is_some() {
+            fuel / EVEN_PARTS
+        } else {
+            0
+        };
+        left = left.saturating_sub(part);
+        if let Some(schedule) = self.complete_by_sources(&mut part) {
+            return Some(schedule);
         }
+        left = left.saturating_add(part);
         if let Some(schedule) = self.complete_by_turns(&mut left) {
             return Some(schedule);
         }
-        if self.is_to_be_aligned(has_windows)? {
-            let mut part = left / ALIGNING_PARTS;
-            left = left.saturating_sub(part);
-            if let Some(times) = self.aligned_times(&mut part) {
-                self.times = times;
-            }
-            left = left.saturating_add(part);
+        if let Some(price) = alignment {
+            left = left.saturating_sub(price);
+            self.times = self.aligned_times()?;
         }
         if has_windows && let Some(schedule) = self.complete_by_windows(&mut left) {
             return Some(schedule);
@@ -220,15 +227,21 @@ impl Proposer<'_> {
         }
     }
 
-    // Whether times are aligned: where cells have several values, but too few for the number of processes.
-    fn is_to_be_aligned(&self, has_windows: bool) -> Option<bool> {
+    // What it burns to align times, if they are to be aligned: where cells have several values, but too few for the number of
+    // processes, and little of the fuel is burnt.
+    fn alignment(&self, has_windows: bool, fuel: u64) -> Option<Option<u64>> {
         let procs = u32::try_from(self.lengths.procs()).ok()?;
-        let end = if has_windows {
-            procs.saturating_mul(3) / 4
+        let (end, parts) = if has_windows {
+            (procs.saturating_mul(3) / 4, ALIGNING_PARTS_OF_WINDOWS)
         } else {
-            procs.saturating_mul(2)
+            (procs.saturating_mul(2), ALIGNING_PARTS)
         };
-        Some((LEAST_VALUES..end).contains(&self.given(&[])?.values_of_cell()?))
+        let given = self.given(&[])?;
+        if !(LEAST_VALUES..end).contains(&given.values_of_cell()?) {
+            return Some(None);
+        }
+        let price = price_of_aligning(&given)?;
+        Some((price <= fuel / parts).then_some(price))
     }
 
     // A schedule by a walk in which each read has the source that a search chose. The search's orders aren't kept, since they may
