@@ -8,23 +8,31 @@ import threading
 
 REFUSED, AT_LIMIT, NOT_REFUSED = "refused", "at a limit", "not refused"
 COULD_NOT_TELL, UNTOLD = 3, "it did not reach the prover"  # the status of a check that came to a limit, and what is said of it
-LAST_USED = "rattle-last-used"  # an empty file that each check touches
+WRITTEN_IN_PLACE = {"rattle-last-used", "offered.json"}  # a check writes these where they stand, and all else anew
 OVER = 0.7  # the share of the memory of a check from nothing that one over kept work takes
 
 
 def listing(folder):
-    """The files below a folder, each with what changes when it is written, but for those that only tell when it was used."""
+    """The files below a folder, each with what changes when it is written."""
     found = {}
     for at, _, files in os.walk(folder):
-        for name in set(files) - {LAST_USED}:
+        for name in files:
             seen = os.stat(f"{at}/{name}")
             found[f"{at}/{name}"] = (seen.st_ino, seen.st_size, seen.st_mtime_ns)
     return found
 
 
+def link_or_copy(source, copy):
+    """A file by a link, but for one that a check of the copy would change with it."""
+    if os.path.basename(source) in WRITTEN_IN_PLACE:
+        shutil.copy2(source, copy)
+    else:
+        os.link(source, copy)
+
+
 def linked(source, copy):
-    """A folder with the same files, by links."""
-    shutil.copytree(source, copy, copy_function=os.link)
+    """A folder with the same files, mostly by links."""
+    shutil.copytree(source, copy, copy_function=link_or_copy)
 
 
 def fill_in(rt):
