@@ -6,7 +6,7 @@ use std::alloc::Global;
 
 /// Into how many spans the time is divided at first; then into twice as many each time, until there are as many as a process has
 /// operations, or too many counts.
-const FIRST_SPANS: u32 = 32;
+const FIRST_SPANS: u32 = 8;
 
 const MOST_COUNTS: u32 = 1 << 18;
 
@@ -46,16 +46,21 @@ struct Sums {
 pub(crate) fn price_of_aligning(given: &Given) -> Option<u64> {
     let ops = u64::from(given.numbering.len()?);
     let procs = u64::from(given.numbering.procs()?);
-    let divisions = divisions_of(given)?;
-    let spans = u64::from(FIRST_SPANS.checked_shl(divisions)?);
-    // For each operation the spans that it is moved to, and for each process all operations and counts.
-    let moves = ops.saturating_mul(u64::from(REACH).saturating_mul(2).saturating_add(procs));
-    let counts = u64::from(given.values.count())
-        .saturating_mul(spans)
-        .saturating_mul(2);
-    let steps = moves
-        .saturating_mul(u64::from(divisions))
-        .saturating_add(procs.saturating_mul(counts));
+    let values = u64::from(given.values.count());
+    let mut spans = u64::from(FIRST_SPANS);
+    let mut steps: u64 = 0;
+    for _ in 0..divisions_of(given)? {
+        // For each operation the spans that it is moved to, and for each process all operations and counts.
+        let places = u64::from(REACH)
+            .saturating_mul(2)
+            .min(spans)
+            .saturating_add(procs);
+        let counts = values.saturating_mul(spans).saturating_mul(2);
+        steps = steps
+            .saturating_add(ops.saturating_mul(places))
+            .saturating_add(counts.saturating_mul(procs));
+        spans = spans.saturating_mul(2);
+    }
     Some(steps.saturating_mul(u64::from(SWEEPS)) / STEPS_OF_FUEL)
 }
 
