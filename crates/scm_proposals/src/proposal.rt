@@ -100,7 +100,8 @@ pub fn propose_by_walks(
 }
 
 /// The same after walks, with this fuel: in long turns, or else window by window, or else by a walk in which each read has the
-/// source that a search chose. Before windows that comes first where few writes wrote what most reads found.
+/// source that a search chose. That comes first, with a part of the fuel, before windows where few writes wrote what most reads
+/// found, and before times are aligned where there are no windows.
 pub fn propose_by_search(
     alloc: Global,
     initials: &[Option<u64>],
